@@ -1,8 +1,9 @@
 -- Searches below a bound: what is found or not, the first, the lowest of those found, one answer for all.
-use mathlib.Core.Path.{_≡_, refl, sym, subst}
-use mathlib.Core.Bool.{Bool, true, false, cond}
+use mathlib.Core.Path.{_≡_, refl, sym, ap, ap₂, _∙_, subst}
+use mathlib.Core.Bool.{Bool, true, false, cond, _||_}
 use mathlib.Core.Logic.{_⊎_, inl, inr}
-use Prim.Native.Nat.{ℕ, zero, suc, _<_, _≤_}
+use Prim.Native.Nat.{ℕ, zero, suc, _+_, _<_, _≤_}
+use native.Mathlib.Numerals.{add-one}
 use native.Mathlib.Omega.{arith}
 use native.Mathlib.Nat.{le-refl}
 use native.Mathlib.Decide.{decLt, decLe}
@@ -55,6 +56,18 @@ first-found f (suc n) h = first-step f n (some-below f n) (f n) refl refl (first
 pub first-none : (f : ℕ → Bool) (n : ℕ) → some-below f n ≡ false → first-below f n ≡ n
 first-none f zero h = refl
 first-none f (suc n) h = let r = or-parts (some-below f n) (f n) h in rw (r .0, r .1)
+
+-- one below which there is none is the first
+pub first-at : (f : ℕ → Bool) (n i : ℕ) → i < n → some-below f i ≡ false → f i ≡ true → first-below f n ≡ i
+first-at f n i l none here =
+    let r = first-found f n (find f n i l here) in
+    elim (decLt (first-below f n) i)
+    [ yes below ↦ not-both (f (first-below f n)) (r .1) (none-below f i none (first-below f n) below)
+    | no g ↦ elim (decLt i (first-below f n)) [ yes above ↦ not-both (f i) here (r .2 i above) | no h ↦ omega arith ] ]
+
+-- none below i, and none at i
+pub none-more : (f : ℕ → Bool) (i : ℕ) → some-below f i ≡ false → f i ≡ false → some-below f (i + 1) ≡ false
+none-more f i a b = ap (some-below f) (add-one i) ∙ ap₂ _||_ a b
 
 -- of those found, one whose measure is lowest
 abbrev pub Lowest : (ℕ → Bool) → (ℕ → ℕ) → ℕ → Type 0

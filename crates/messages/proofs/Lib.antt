@@ -1,0 +1,2 @@
+-- The lemmas about the rows of a set.
+pub mod RowLaws

@@ -1,0 +1,2 @@
+-- The lemmas about plans.
+pub mod Lawfulness

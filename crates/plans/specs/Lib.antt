@@ -1,0 +1,3 @@
+-- Plans as the rules speak of them, and their refusals.
+pub mod Tables
+pub mod Planned

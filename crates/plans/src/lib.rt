@@ -1,0 +1,2 @@
+//! What a hall is opened with: seats, rounds, ranks, corrupt seats, delays and the likeness of entries.
+pub mod plan;
