@@ -9,10 +9,10 @@ use native.Mathlib.Omega.{arith}
 use lib.Dec.{eqb, lit<}
 use lib.Pow.{pow-pos, mod-pow-add}
 use lib.Count.{ones, onesIn, ones-cat}
-use Rattle.std.proofs.shelf.Tests.{cases-eq, eq-eqb, ne-eqb, eqb-true}
+use Rattle.std.proofs.shelf.Tests.{cases-eq, eq-eqb, ne-eqb, or-parts, or-left, or-right}
 use Rattle.basics.specs.Bit.{bit}
 use Rattle.basics.specs.Put.{put}
-use Rattle.basics.specs.Count.{tally}
+use Rattle.basics.specs.Count.{tally, some-below}
 use Rattle.basics.proofs.BitLaws.{bit-past, put-here, put-there}
 
 -- at most the bound
@@ -89,3 +89,24 @@ pub ones-all : (w m n : ℕ) → m < 2 ^ w → w ≤ n → ones m ≡ tally (bit
 ones-all w m n h past =
     let e : w + (n - w) ≡ n = omega arith in
     ap ones (sym (mod-eq-of-lt h)) ∙ ones-tally m w ∙ sym (tally-past (bit m) w (n - w) (λ k. bit-past w m k h)) ∙ ap (tally (bit m)) e
+
+-- where none below the bound passes, each fails
+pub none-below : (f : ℕ → Bool) (n : ℕ) → some-below f n ≡ false → (k : ℕ) → k < n → f k ≡ false
+none-below f zero h k lt = absurd (omega arith)
+none-below f (suc n) h k lt =
+    let p = or-parts (some-below f n) (f n) h in
+    ⊎-elim (λ (e : k ≡ n). ap f e ∙ p .1) (λ (ne : k ≡ n → ⊥). none-below f n (p .0) k (omega arith)) (cases-eq k n)
+
+-- tests that agree below the bound find the same
+pub some-same : (f g : ℕ → Bool) (n : ℕ) → ((k : ℕ) → k < n → f k ≡ g k) → some-below f n ≡ some-below g n
+some-same f g zero h = refl
+some-same f g (suc n) h = ap₂ _||_ (some-same f g n (λ k lt. h k (omega arith))) (h n (omega arith))
+
+-- one below the bound that passes is found
+pub some-here : (f : ℕ → Bool) (n k : ℕ) → k < n → f k ≡ true → some-below f n ≡ true
+some-here f zero k lt e = absurd (omega arith)
+some-here f (suc n) k lt e =
+    ⊎-elim
+    (λ (same : k ≡ n). or-right (some-below f n) (f n) (ap f (sym same) ∙ e))
+    (λ (ne : k ≡ n → ⊥). or-left (some-below f n) (f n) (some-here f n k (omega arith) e))
+    (cases-eq k n)

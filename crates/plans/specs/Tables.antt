@@ -3,17 +3,14 @@ use mathlib.Core.Path.{_≡_}
 use mathlib.Core.Bool.{Bool, cond, true, _&&_}
 use mathlib.Core.List.{List}
 use Prim.Native.Nat.{ℕ, _+_, _-_, _*_, _<_}
-use lib.Dec.{ltb, leb}
+use lib.Dec.{ltb}
 use lib.ListN.{getD}
 use Rattle.basics.specs.Bit.{bit}
-
--- whether k is one of the rounds up to R, and s one of n seats
-abbrev pub asked-within : ℕ → ℕ → ℕ → ℕ → Bool
-asked-within n R k s = leb 1 k && (leb k R && ltb s n)
+use Rattle.draws.specs.Ranks.{drawn}
 
 -- the rank of seat s in round k: 13 to a round; where there is no such seat or round, the seat's own number
 abbrev pub rank-in : ℕ → ℕ → List ℕ → ℕ → ℕ → ℕ
-rank-in n R ranks k s = cond (asked-within n R k s) (getD ranks ((k - 1) * 13 + s) 0) s
+rank-in n R ranks k s = cond (drawn n R k s) (getD ranks ((k - 1) * 13 + s) 0) s
 
 -- whether the places x and y hold like entries: a row of bits to a place
 abbrev pub like-in : ℕ → List ℕ → ℕ → ℕ → Bool

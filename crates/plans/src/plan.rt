@@ -5,6 +5,7 @@ ghost use Rattle.basics.specs.Count.{tally};
 ghost use Rattle.plans.specs.Tables.{Ranks-below, Ranks-apart, Like-self, Like-back};
 
 pub mod blocks;
+pub mod setup;
 
 /// What is fixed when a hall opens. It is used up by the opening, and always lawful.
 #[derive(Drop)]

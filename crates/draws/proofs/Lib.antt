@@ -1,0 +1,2 @@
+-- Laws of judged and copied ranks.
+pub mod Judging
