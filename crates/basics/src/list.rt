@@ -65,6 +65,6 @@ impl<'a, T: Copy> BoundedList<'a, T> {
     pub fn as_slice(&self) -> &[T]
         ensures { λ r. ⌜ now r ≡ contents (now (self .entry)) ⌝ }
     {
-        &self.items[0..self.len.min(self.items.len())]
+        &self.items[0..self.len()]
     }
 }

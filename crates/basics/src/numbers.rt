@@ -1,7 +1,10 @@
 //! Wrapped numbers, each with its range: a rank is never accepted where a seat is expected.
 ghost use Prim.Native.Nat.{_<_, _≤_};
 
-mod calls;
+mod blocks;
+mod ranks;
+mod rounds;
+mod seats;
 
 /// A seat of the hall, counted from 0; there are at most 13.
 #[derive(Clone, Copy, PartialEq, Eq)]

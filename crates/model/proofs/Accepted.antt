@@ -7,7 +7,7 @@ use Prim.Native.Nat.{ℕ, _+_, _<_, _≤_}
 use native.Mathlib.Omega.{arith}
 use lib.Dec.{eqb, ltb, leb}
 use Rattle.std.proofs.shelf.Tests.{and-parts, and-from, or-cases, or-right, not-true, ltb-true, eqb-true, leb-true, lt-ltb}
-use Rattle.model.specs.Setup.{Plan, honest, round-of, numbers}
+use Rattle.model.specs.Setup.{Plan, honest, round-of, rank-of, numbers}
 use Rattle.model.specs.World.{World, message, exists, chain, places-of, sound, valid, notarized}
 use Rattle.model.specs.World.Phase.{waiting, in-round}
 use Rattle.model.specs.Checks.{checks, verdict, known, combined, made-in}
@@ -31,6 +31,11 @@ Known w b = (b ≡ 0) ⊎ (w .made b ≡ true)
 known-is : (p : Plan) (w : World) (b : ℕ) → known p w b ≡ true → Known w b
 known-is p w b h =
     elim (or-cases (eqb b 0) _ h) [ inl e ↦ inl (eqb-true b 0 e) | inr m ↦ inr (and-parts (ltb b (numbers p)) (w .made b) m .1) ]
+
+-- either has a number in range
+pub known-below : (p : Plan) (w : World) (b : ℕ) → known p w b ≡ true → b < numbers p
+known-below p w b h =
+    elim (or-cases (eqb b 0) _ h) [ inl e ↦ omega (arith, eqb-true b 0 e) | inr m ↦ ltb-true b (numbers p) (and-parts (ltb b (numbers p)) (w .made b) m .0) ]
 
 -- the root is of round 0
 pub known-made : (p : Plan) (w : World) (b : ℕ) → Known w b → 1 ≤ round-of p b → w .made b ≡ true
@@ -59,6 +64,7 @@ pub record Echoes (p : Plan) (w : World) (s b : ℕ) : Type 0 where
   pub inside : w .seat s .phase ≡ in-round
   pub of-round : round-of p b ≡ w .seat s .round
   pub unnoted : w .seat s .noted b ≡ false
+  pub qualified : w .seat s .disqualified (rank-of p b) ≡ false
   pub is-valid : valid p w s b ≡ true
 
 pub record Finishes (p : Plan) (w : World) (s b : ℕ) : Type 0 where
@@ -112,6 +118,7 @@ module _ (p : Plan) (w : World) where
         inside = in-round-is (w .seat s .phase) (c 12);
         of-round = eqb-true (round-of p b) (w .seat s .round) (c 17);
         unnoted = not-true (w .seat s .noted b) (and-parts (not (w .seat s .noted b)) _ (c 16) .0);
+        qualified = not-true (w .seat s .disqualified (rank-of p b)) (and-parts (not (w .seat s .noted b)) _ (c 16) .1);
         is-valid = c 18;
       }
 

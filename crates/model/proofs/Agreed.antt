@@ -51,13 +51,13 @@ module _ (p : Plan) (law : Lawful p) (w : World) (i : Inv p w) (delivered : All-
   inside : (s : ℕ) → Acts p s → Inside p w s (w .seat s .round) (w .seat s .proposed) (w .seat s .noted) (w .seat s .disqualified)
   inside s a = i .seats s a .inside (together s a .0)
 
-  -- what an unbarred valid block of the round is, for a seat
+  -- what an qualified valid block of the round is, for a seat
   candidate : ℕ → ℕ → Bool
   candidate s b = better p w s (p .n) b
 
   record Candidate (s b : ℕ) : Type 0 where
     of-round : round-of p b ≡ k
-    unbarred : w .seat s .disqualified (rank-of p b) ≡ false
+    qualified : w .seat s .disqualified (rank-of p b) ≡ false
     is-valid : valid p w s b ≡ true
 
   below : (s r b : ℕ) → Acts p s → better p w s r b ≡ true → (rank-of p b < r) × Candidate s b
@@ -68,7 +68,7 @@ module _ (p : Plan) (law : Lawful p) (w : World) (i : Inv p w) (delivered : All-
         ltb-true (rank-of p b) r (y .0),
         record {
           of-round = eqb-true (round-of p b) (w .seat s .round) (x .0) ∙ together s a .1;
-          unbarred = not-true (w .seat s .disqualified (rank-of p b)) (z .0);
+          qualified = not-true (w .seat s .disqualified (rank-of p b)) (z .0);
           is-valid = z .1;
         },
       )
@@ -77,7 +77,7 @@ module _ (p : Plan) (law : Lawful p) (w : World) (i : Inv p w) (delivered : All-
   unfolding candidate
   is-candidate s b a c =
       and-from _ _ (eq-eqb (round-of p b) (w .seat s .round) (c .of-round ∙ sym (together s a .1)))
-      (and-from _ _ (lt-ltb (rank-of p b) (p .n) (rank-below p b law)) (and-from _ _ (not-from-false (w .seat s .disqualified (rank-of p b)) (c .unbarred)) (c .is-valid)))
+      (and-from _ _ (lt-ltb (rank-of p b) (p .n) (rank-below p b law)) (and-from _ _ (not-from-false (w .seat s .disqualified (rank-of p b)) (c .qualified)) (c .is-valid)))
 
   from-one : (s : ℕ) → Acts p s → 1 ≤ k
   from-one s a = let x = i .seats s a .stage .from-one in let y = together s a .1 in omega arith
@@ -90,7 +90,7 @@ module _ (p : Plan) (law : Lawful p) (w : World) (i : Inv p w) (delivered : All-
       pooled (suc j) l h = and-parts (w .pool s (block b)) _ h .0
 
   backed-candidate : (s b : ℕ) → Acts p s → Backed p w b → round-of p b ≡ k → w .seat s .disqualified (rank-of p b) ≡ false → Candidate s b
-  backed-candidate s b a x r u = record { of-round = r; unbarred = u; is-valid = valid-everywhere p law w i delivered b s a x }
+  backed-candidate s b a x r u = record { of-round = r; qualified = u; is-valid = valid-everywhere p law w i delivered b s a x }
 
   -- a seat's own proposal
   own-candidate : (s : ℕ) → Acts p s → Candidate s (number p k s 0)
@@ -141,7 +141,7 @@ module _ (p : Plan) (law : Lawful p) (w : World) (i : Inv p w) (delivered : All-
         inr (inr (inl (
           b,
           echo-ready p w s a b (made-known p law w i delivered b (candidate-made s b a c)) (together s a .0)
-              (c .of-round ∙ sym (together s a .1)) n (c .unbarred) (c .is-valid)
+              (c .of-round ∙ sym (together s a .1)) n (c .qualified) (c .is-valid)
               (waited p law w patient s (rank-of p b) a (together s a .0) (rank-below p b law)) (none-better s b a e),
         ))),
       )
@@ -175,7 +175,7 @@ module _ (p : Plan) (law : Lawful p) (w : World) (i : Inv p w) (delivered : All-
       where
         one : w .seat s .noted b ≡ true → (h : ℕ) → Acts p h → Ready p w ⊎ (honest p h ≡ true → w .seat h .noted b ≡ true)
         one n h ah = elim (cases-bool (w .seat h .disqualified (rank-of p b))) [
-          | inl y ↦ inl (disqualified-or-ready s h a ah (ap (w .seat s .disqualified) (sym e) ∙ c .unbarred) (ap (w .seat h .disqualified) (sym e) ∙ y))
+          | inl y ↦ inl (disqualified-or-ready s h a ah (ap (w .seat s .disqualified) (sym e) ∙ c .qualified) (ap (w .seat h .disqualified) (sym e) ∙ y))
           | inr u ↦ elim (noted-or-ready h b ah e (backed-candidate h b ah (i .seats s a .marks .backed-2 b (inside s a .noted-ok b n .seal-made)) (c .of-round) u))
               [ inl ready ↦ inl ready | inr m ↦ inr (λ _. m) ]
         ]

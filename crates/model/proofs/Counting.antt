@@ -1,13 +1,14 @@
 -- Counts below a bound: how they add, grow and overlap, and what quorums of a lawful plan share.
-use mathlib.Core.Path.{_≡_, refl}
+use mathlib.Core.Path.{_≡_, refl, ap, subst}
 use mathlib.Core.Bool.{Bool, true, false, cond, not, _&&_}
-use Prim.Native.Nat.{ℕ, zero, suc, _+_, _<_, _≤_}
+use Prim.Native.Nat.{ℕ, zero, suc, _+_, _*_, _<_, _≤_}
 use native.Mathlib.Omega.{arith}
+use native.Mathlib.Decide.{decLt}
 use Rattle.std.proofs.shelf.Tests.{both-ways, not-from-false, and-parts}
 use Rattle.basics.specs.Count.{tally}
 use Rattle.model.specs.Setup.{Plan, Lawful, honest, quorum}
 
-abbrev one-if : Bool → ℕ
+abbrev pub one-if : Bool → ℕ
 one-if b = cond b 1 0
 
 one-if-and : (a b : Bool) → one-if a + one-if b ≤ 1 + one-if (a && b)
@@ -52,6 +53,45 @@ one-if-not false = refl
 tally-not : (f : ℕ → Bool) (n : ℕ) → tally (λ k. not (f k)) n + tally f n ≡ n
 tally-not f zero = refl
 tally-not f (suc n) = omega (arith, tally-not f n, one-if-not (f n))
+
+pub tally-most : (f : ℕ → Bool) (n : ℕ) → tally f n ≤ n
+tally-most f n = omega (arith, tally-not f n)
+
+-- one more has the property
+pub tally-rises : (f g : ℕ → Bool) (n i : ℕ) → i < n → ((s : ℕ) → s < n → f s ≡ true → g s ≡ true) → f i ≡ false → g i ≡ true → tally f n + 1 ≤ tally g n
+tally-rises f g zero i l h old new = absurd (omega arith)
+tally-rises f g (suc k) i l h old new = elim (decLt i k) [
+  | yes below ↦ omega (arith, tally-rises f g k i below (λ s m. h s (omega arith)) old new, one-if-grows (f k) (g k) (h k (omega arith)))
+  | no above ↦
+      let e : i ≡ k = omega arith in
+      let fk : f k ≡ false = subst (λ (x : ℕ). f x ≡ false) e old in
+      let gk : g k ≡ true = subst (λ (x : ℕ). g x ≡ true) e new in
+      omega (arith, tally-grows f g k (λ s m. h s (omega arith)), ap one-if fk, ap one-if gk)
+]
+
+-- Sums below a bound.
+abbrev pub total : (ℕ → ℕ) → ℕ → ℕ
+total f zero = 0
+total f (suc k) = total f k + f k
+
+-- a sum of which one number rises by x, and none sinks
+pub total-rises : (f g : ℕ → ℕ) (x n i : ℕ) → i < n → ((s : ℕ) → f s ≤ g s) → f i + x ≤ g i → total f n + x ≤ total g n
+total-rises f g x zero i l h more = absurd (omega arith)
+total-rises f g x (suc k) i l h more = elim (decLt i k) [
+  | yes below ↦ omega (arith, total-rises f g x k i below h more, h k)
+  | no above ↦
+      let e : i ≡ k = omega arith in
+      let here : f k + x ≤ g k = subst (λ (j : ℕ). f j + x ≤ g j) e more in
+      omega (arith, here, total-grows f g k h)
+]
+  where
+    total-grows : (f g : ℕ → ℕ) (n : ℕ) → ((s : ℕ) → f s ≤ g s) → total f n ≤ total g n
+    total-grows f g zero h = omega arith
+    total-grows f g (suc k) h = omega (arith, total-grows f g k h, h k)
+
+pub total-most : (f : ℕ → ℕ) (m n : ℕ) → ((s : ℕ) → f s ≤ m) → total f n ≤ n * m
+total-most f m zero h = omega arith
+total-most f m (suc k) h = omega (arith, total-most f m k h, h k)
 
 -- Quorums of a lawful plan.
 abbrev Honest-in : Plan → (ℕ → Bool) → Type 0

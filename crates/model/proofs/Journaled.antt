@@ -107,8 +107,8 @@ module _ (p : Plan) (l : Lawful p) where
     finalization-from (forge _ _ _ _) a x = absurd x
     finalization-from (seal r kind y) a x = (v, inl (subst (λ (z : Message). Accepted-at p js v (seal (z .signer) (z .kind) (z .subject))) (sym x) a))
 
-  pub seals-journaled : Seals-are-journaled p
-  seals-journaled js w k s b = ((notarization-told, notarization-made), (finalization-told, finalization-made))
+  pub seals-are-journaled : Seals-are-journaled p
+  seals-are-journaled js w k s b = ((notarization-told, notarization-made), (finalization-told, finalization-made))
     where
       notarization-told : w .sealed 2 s b ≡ true → Notarization-seal p js s b
       notarization-told h = elim (sealed-added js w k (notarization-share s b) h) [
@@ -142,8 +142,8 @@ module _ (p : Plan) (l : Lawful p) where
   broadcasts-honest v (forge _ _ _ _) m h n = not-both false n refl
   broadcasts-honest v (seal _ _ _) m h n = not-both false n refl
 
-  pub posts-journaled : Posts-are-journaled p
-  posts-journaled js w k m = (told, made)
+  pub posts-are-journaled : Posts-are-journaled p
+  posts-are-journaled js w k m = (told, made)
     where
       told : w .posted m ≡ true → First-share p m ⊎ Broadcast-in p js m
       told h = elim (added p (λ w. w .posted) (broadcast p) (λ w c m. refl) (λ w v m g. g .posts-stay m) m js w k h) [
@@ -159,5 +159,5 @@ module _ (p : Plan) (l : Lawful p) where
   -- A quorum's seals in the journal are the state's.
   pub finalized-alone : Finalized-alone p
   finalized-alone js w k b c _ _ e (f, f-seals, f-many) (g, g-seals, g-many) = alone p w (always p l js w k) l b c e
-      (omega (arith, f-many, tally-grows f (λ s. w .sealed 4 s b) (p .n) (λ s below h. seals-journaled js w k s b .1 .1 (f-seals s below h))))
-      (omega (arith, g-many, tally-grows g (λ s. w .sealed 2 s c) (p .n) (λ s below h. seals-journaled js w k s c .0 .1 (g-seals s below h))))
+      (omega (arith, f-many, tally-grows f (λ s. w .sealed 4 s b) (p .n) (λ s below h. seals-are-journaled js w k s b .1 .1 (f-seals s below h))))
+      (omega (arith, g-many, tally-grows g (λ s. w .sealed 2 s c) (p .n) (λ s below h. seals-are-journaled js w k s c .0 .1 (g-seals s below h))))

@@ -2,8 +2,9 @@
 use Rattle.model.specs.Setup.{Plan, Lawful}
 use Rattle.model.specs.Promises.{Promises}
 use Rattle.model.proofs.Safety.{catalogues-agree, no-entry-twice}
-use Rattle.model.proofs.Journaled.{finalized-alone, seals-journaled, posts-journaled}
+use Rattle.model.proofs.Journaled.{finalized-alone, seals-are-journaled, posts-are-journaled}
 use Rattle.model.proofs.Better.{better-is-named}
+use Rattle.model.proofs.Ends.{runs-end}
 use Rattle.model.proofs.Progress.{never-stuck, posts-can-arrive}
 
 pub law-stands : (p : Plan) → Lawful p → Promises p
@@ -13,7 +14,8 @@ law-stands p l = record {
   finalized-alone = finalized-alone p l;
   never-stuck = never-stuck p l;
   posts-can-arrive = posts-can-arrive p l;
-  seals-are-journaled = seals-journaled p l;
-  posts-are-journaled = posts-journaled p l;
+  seals-are-journaled = seals-are-journaled p l;
+  posts-are-journaled = posts-are-journaled p l;
   better-is-named = better-is-named p l;
+  runs-end = runs-end p l;
 }

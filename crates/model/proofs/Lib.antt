@@ -29,6 +29,8 @@ pub mod Delivered
 pub mod Agreed
 pub mod Progress
 pub mod Better
+pub mod Ends
 pub mod Law
 pub mod Clocks
-pub mod Witness
+pub mod Runs
+pub mod Misreadings

@@ -3,7 +3,7 @@ use mathlib.Core.Path.{_≡_, refl, sym, ap, _∙_}
 use mathlib.Core.Bool.{Bool, cond}
 use Prim.Native.Nat.{ℕ, zero, suc, _+_, _-_, _*_, _/_, _%_, _<_, _≤_}
 use native.Mathlib.Omega.{arith}
-use native.Mathlib.Nat.{mul-le-mul-right, mod-lt, div-add-mod'}
+use native.Mathlib.Nat.{mul-le-mul-right, mod-lt, div-add-mod', div-lt-iff-lt-mul}
 use lib.Arith.{digits-div, digits-mod}
 use Rattle.std.proofs.shelf.Tests.{ne-eqb}
 use Rattle.model.specs.Setup.{Plan, Lawful, number, round-of, maker-of, rank-of, numbers}
@@ -48,6 +48,14 @@ pub number-below : (p : Plan) (k s v : ℕ) → 1 ≤ k → k ≤ p .rounds → 
 number-below p k s v one high l h =
     let q : (k - 1 + 1) * p .n ≤ p .rounds * p .n = mul-le-mul-right (p .n) (omega arith) in
     omega arith
+
+-- and a number in range is of a round in range
+pub round-below : (p : Plan) (b : ℕ) → Lawful p → b < numbers p → round-of p b ≤ p .rounds
+round-below p zero law h = omega arith
+round-below p (suc b) law h =
+    let third : (suc b - 1) / 3 < p .rounds * p .n = div-lt-iff-lt-mul (omega arith) .1 (omega arith) in
+    let q : (suc b - 1) / 3 / p .n < p .rounds = div-lt-iff-lt-mul (omega (arith, law .faults)) .1 third in
+    omega (arith, round-of-block p (suc b) (omega arith))
 
 pub maker-below : (p : Plan) (b : ℕ) → Lawful p → maker-of p b < p .n
 maker-below p b law = mod-lt ((b - 1) / 3) (omega (arith, law .faults))

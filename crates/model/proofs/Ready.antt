@@ -37,13 +37,13 @@ module _ (p : Plan) (w : World) (s : ℕ) (a : Acts p s) where
       w .seat s .noted b ≡ false → w .seat s .disqualified (rank-of p b) ≡ false → valid p w s b ≡ true →
       ntry-delay p (rank-of p b) ≤ elapsed p s (w .seat s .start) (w .seat s .clock) →
       some-better p w s (rank-of p b) ≡ false → verdict p w (echo s b) ≡ accepted
-  echo-ready b is-there inside now unnoted unbarred vl delay best = none-failed (checks p w (echo s b))
+  echo-ready b is-there inside now unnoted qualified vl delay best = none-failed (checks p w (echo s b))
       (lt-ltb s (p .n) (a .below)
       then a .honest-seat
       then is-there
       then ap is-in-round inside
       then eq-eqb _ _ now
-      then and-from _ _ (not-from-false (w .seat s .noted b) unnoted) (not-from-false (w .seat s .disqualified (rank-of p b)) unbarred)
+      then and-from _ _ (not-from-false (w .seat s .noted b) unnoted) (not-from-false (w .seat s .disqualified (rank-of p b)) qualified)
       then vl
       then le-leb _ _ delay
       then not-from-false (some-better p w s (rank-of p b)) best

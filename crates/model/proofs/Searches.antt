@@ -61,9 +61,10 @@ first-none f (suc n) h = let r = or-parts (some-below f n) (f n) h in rw (r .0, 
 pub first-at : (f : ℕ → Bool) (n i : ℕ) → i < n → some-below f i ≡ false → f i ≡ true → first-below f n ≡ i
 first-at f n i l none here =
     let r = first-found f n (find f n i l here) in
-    elim (decLt (first-below f n) i)
-    [ yes below ↦ not-both (f (first-below f n)) (r .1) (none-below f i none (first-below f n) below)
-    | no g ↦ elim (decLt i (first-below f n)) [ yes above ↦ not-both (f i) here (r .2 i above) | no h ↦ omega arith ] ]
+    elim (decLt (first-below f n) i) [
+      | yes below ↦ not-both (f (first-below f n)) (r .1) (none-below f i none (first-below f n) below)
+      | no g ↦ elim (decLt i (first-below f n)) [ yes above ↦ not-both (f i) here (r .2 i above) | no h ↦ omega arith ]
+    ]
 
 -- none below i, and none at i
 pub none-more : (f : ℕ → Bool) (i : ℕ) → some-below f i ≡ false → f i ≡ false → some-below f (i + 1) ≡ false

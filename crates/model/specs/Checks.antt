@@ -9,6 +9,8 @@ use Rattle.model.specs.Setup.{Plan, quorum, honest, number, round-of, rank-of,
 use Rattle.model.specs.World.{World, Seat, Phase, message, exists, chain, places-of, sound, valid, notarized, held}
 use Rattle.model.specs.World.Phase.{waiting, in-round, done}
 
+-- A call names its seat first. The rules of an honest seat: its clock is set; it enters a round, proposes a block, echoes one, finishes its round
+-- with one, commits one. A message is delivered to it. A corrupt seat makes a block, or seals a share.
 pub data Call : Type 0 where
   tick : (s time : ℕ) → Call
   enter : (s : ℕ) → Call
@@ -30,6 +32,7 @@ caller (deliver s _ _ _) = s
 caller (forge s _ _ _) = s
 caller (seal s _ _) = s
 
+-- the answer to a call: accepted, or refused with a number, the layer that refused, the seat and the subject
 pub data Verdict : Type 0 where
   accepted : Verdict
   refused : (number layer seat subject : ℕ) → Verdict
@@ -38,15 +41,18 @@ pub data Verdict : Type 0 where
 pub data Check : Type 0 where
   must : (holds : Bool) (number layer seat subject : ℕ) → Check
 
+-- accepted if all checks hold, else refused by the first that does not
 abbrev pub first-failed : List Check → Verdict
 first-failed [] = accepted
 first-failed (must holds number layer seat subject ∷ cs) = cond holds (first-failed cs) (refused number layer seat subject)
 
+-- whether a seat is in a round
 abbrev pub is-in-round : Phase → Bool
 is-in-round waiting = false
 is-in-round in-round = true
 is-in-round done = false
 
+-- whether it waits for one
 abbrev pub is-waiting : Phase → Bool
 is-waiting waiting = true
 is-waiting in-round = false
@@ -56,10 +62,12 @@ is-waiting done = false
 abbrev pub known : Plan → World → ℕ → Bool
 known p w b = eqb b 0 || (ltb b (numbers p) && w .made b)
 
+-- whether all places could be in an entry table
 abbrev pub all-below-128 : List ℕ → Bool
 all-below-128 [] = true
 all-below-128 (x ∷ xs) = ltb x 128 && all-below-128 xs
 
+-- whether a payload has at most four places, each of which could be in an entry table
 abbrev pub payload-ok : List ℕ → Bool
 payload-ok xs = leb (length xs) 4 && all-below-128 xs
 
@@ -77,10 +85,11 @@ better p w s r c =
     eqb (round-of p c) (w .seat s .round)
     && (ltb (rank-of p c) r && (not (w .seat s .disqualified (rank-of p c)) && valid p w s c))
 
--- whether there is one, and the first in the order by rank, then by number
+-- whether there is one
 abbrev pub some-better : Plan → World → ℕ → ℕ → Bool
 some-better p w s r = some-below (λ j. better p w s r (in-order p (w .seat s .round) j)) (3 * r)
 
+-- the first of them in the order by rank, then by number
 abbrev pub first-better : Plan → World → ℕ → ℕ → ℕ
 first-better p w s r =
     in-order p (w .seat s .round) (first-below (λ j. better p w s r (in-order p (w .seat s .round) j)) (3 * r))
@@ -89,12 +98,14 @@ first-better p w s r =
 abbrev pub made-in : Plan → World → ℕ → ℕ → ℕ
 made-in p w s k = tally (λ v. w .made (number p k s v)) 3
 
+-- whether two lists are the same
 abbrev pub same-list : List ℕ → List ℕ → Bool
 same-list [] [] = true
 same-list [] (y ∷ ys) = false
 same-list (x ∷ xs) [] = false
 same-list (x ∷ xs) (y ∷ ys) = eqb x y && same-list xs ys
 
+-- whether a seat has made a block of this round with this parent and these places
 abbrev pub forged-before : Plan → World → ℕ → ℕ → ℕ → List ℕ → Bool
 forged-before p w s k par xs = some-below
     (λ v. w .made (number p k s v) && (eqb (w .parent (number p k s v)) par && same-list (w .places (number p k s v)) xs)) 3
@@ -115,6 +126,7 @@ module _ (p : Plan) (w : World) where
   abbrev pub waited : ℕ → ℕ → Bool
   waited s delay = leb delay (elapsed p s (w .seat s .start) (w .seat s .clock))
 
+  -- the checks of each call, in order
   abbrev pub checks : Call → List Check
   checks (tick s time) =
       must (ltb s (p .n)) 8 3 s 0
@@ -187,5 +199,6 @@ module _ (p : Plan) (w : World) where
       ∷ must (not (w .sealed kind s x)) 16 3 s x
       ∷ []
 
+  -- the answer to a call in this state
   abbrev pub verdict : Call → Verdict
   verdict c = first-failed (checks c)

@@ -11,6 +11,7 @@ use Rattle.model.specs.Checks.{Call, Verdict, caller, noted-rank, noted-other,
 use Rattle.model.specs.Checks.Call.{tick, enter, propose, echo, finish, commit, deliver, forge, seal}
 use Rattle.model.specs.Checks.Verdict.{accepted, refused}
 
+-- the state with block b, its parent and its places
 abbrev pub with-block : ℕ → ℕ → List ℕ → World → World
 with-block b par xs w = record {
   made = put b true (w .made);
@@ -99,6 +100,7 @@ module _ (p : Plan) (w : World) where
   seat-after (forge s _ _ _) = w .seat s
   seat-after (seal s _ _) = w .seat s
 
+  -- the state after an accepted call
   abbrev pub effect : Call → World
   effect c = record {
     made = with-new-block c .made;
@@ -110,6 +112,7 @@ module _ (p : Plan) (w : World) where
     seat = put (caller c) (seat-after c) (w .seat);
   }
 
+-- whether an answer accepts
 abbrev pub is-accepted : Verdict → Bool
 is-accepted accepted = true
 is-accepted (refused _ _ _ _) = false
@@ -118,7 +121,7 @@ is-accepted (refused _ _ _ _) = false
 abbrev pub after : Plan → World → Call → World
 after p w c = cond (is-accepted (verdict p w c)) (effect p w c) w
 
--- The state at opening: each honest seat waits for round 1, its beacon share of that round sealed and posted.
+-- The state at opening: each honest seat waits for round 1, its beacon share of that round sealed and posted; there is nothing else.
 abbrev pub opening : Plan → World
 opening p = record {
   made = λ _. false;

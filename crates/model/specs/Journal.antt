@@ -7,6 +7,7 @@ use Rattle.model.specs.Checks.{Call, Verdict, verdict}
 use Rattle.model.specs.Checks.Verdict.{accepted}
 use Rattle.model.specs.Effects.{after, opening}
 
+-- a line of a journal: a call and the answer to it
 pub record Line : Type 0 where
   pub call : Call
   pub answer : Verdict

@@ -1,7 +1,7 @@
 -- What holds of every complete journal, above its first line and under every line.
 use mathlib.Core.Path.{_≡_}
-use mathlib.Core.Bool.{Bool, true, false}
-use mathlib.Core.List.{List, _++_}
+use mathlib.Core.Bool.{Bool, true, false, cond, _&&_}
+use mathlib.Core.List.{List, [], _∷_, _++_}
 use mathlib.Core.Logic.{_⊎_}
 use Prim.Native.Nat.{ℕ, _+_, _-_, _*_, _<_, _≤_}
 use lib.ListN.{getD, length}
@@ -10,9 +10,9 @@ use Rattle.model.specs.Setup.{Plan, honest, quorum, round-of, rank-of, elapsed
 use Rattle.model.specs.World.{World, Message, beacon-share, has, places-of}
 use Rattle.model.specs.World.Phase.{in-round, done}
 use Rattle.model.specs.Checks.{Call, caller, noted-rank, noted-other, better, some-better, first-better, verdict}
-use Rattle.model.specs.Checks.Call.{enter, propose, echo, finish, deliver, seal}
+use Rattle.model.specs.Checks.Call.{tick, enter, propose, echo, finish, commit, deliver, forge, seal}
 use Rattle.model.specs.Checks.Verdict.{accepted}
-use Rattle.model.specs.Effects.{broadcast}
+use Rattle.model.specs.Effects.{broadcast, is-accepted}
 use Rattle.model.specs.Journal.{Line, Kept, Accepted-at}
 
 -- What a journal's lines say.
@@ -35,6 +35,7 @@ abbrev pub Broadcast-in : Plan → List Line → Message → Type 0
 Broadcast-in p js m =
     (v : World) × (c : Call) × Accepted-at p js v c × (honest p (caller c) ≡ true) × (has (broadcast p v c) m ≡ true)
 
+-- each follows from the other
 abbrev pub Iff : Type 0 → Type 0 → Type 0
 Iff A B = (A → B) × (B → A)
 
@@ -61,6 +62,7 @@ Finalized-alone p =
     (b c : ℕ) → 1 ≤ b → 1 ≤ c → round-of p b ≡ round-of p c →
     Quorum-of p (λ s. Finalization-seal p js s b) → Quorum-of p (λ s. Notarization-seal p js s c) → b ≡ c
 
+-- ys begins with all of xs
 abbrev pub Begins : List ℕ → List ℕ → Type 0
 Begins xs ys = (zs : List ℕ) × (xs ++ zs ≡ ys)
 
@@ -68,7 +70,7 @@ Begins xs ys = (zs : List ℕ) × (xs ++ zs ≡ ys)
 abbrev pub Agree : List ℕ → List ℕ → Type 0
 Agree xs ys = Begins xs ys ⊎ Begins ys xs
 
--- one journal begins with the other: both are read at points of one journal
+-- Any two honest catalogues agree, of two seats or one, read at two points of one journal or at one: the journal to the later point begins with that to the earlier.
 abbrev pub Catalogues-agree : Plan → Type 0
 Catalogues-agree p =
     (js ks : List Line) (v w : World) → Kept p js v → Kept p (js ++ ks) w →
@@ -79,6 +81,7 @@ Catalogues-agree p =
 abbrev pub No-two-alike : Plan → List ℕ → Type 0
 No-two-alike p xs = (i j : ℕ) → i < j → j < length xs → p .like (getD xs i 0) (getD xs j 0) ≡ true → ⊥
 
+-- an honest catalogue has no two alike entries
 abbrev pub No-entry-twice : Plan → Type 0
 No-entry-twice p =
     (js : List Line) (w : World) → Kept p js w →
@@ -102,9 +105,11 @@ All-patient p w =
     (s : ℕ) → s < p .n → honest p s ≡ true → w .seat s .phase ≡ in-round →
     2 * p .d * (p .n - 1) + p .e ≤ elapsed p s (w .seat s .start) (w .seat s .clock)
 
+-- every honest seat is done
 abbrev pub All-done : Plan → World → Type 0
 All-done p w = (s : ℕ) → s < p .n → honest p s ≡ true → w .seat s .phase ≡ done
 
+-- some honest seat may enter, propose, echo or finish now, with some parent, payload or block
 abbrev pub Ready : Plan → World → Type 0
 Ready p w =
     (s : ℕ) × (s < p .n) × (honest p s ≡ true) ×
@@ -113,6 +118,7 @@ Ready p w =
     ⊎ (((b : ℕ) × (verdict p w (echo s b) ≡ accepted))
     ⊎ ((b : ℕ) × (verdict p w (finish s b) ≡ accepted)))))
 
+-- where all is delivered and all have waited, a hall is done or some seat may go on
 abbrev pub Never-stuck : Plan → Type 0
 Never-stuck p =
     (js : List Line) (w : World) → Kept p js w → All-delivered p w → All-patient p w →
@@ -128,6 +134,28 @@ Better-is-named p =
     (js : List Line) (w : World) → Kept p js w → (s r c : ℕ) → s < p .n → honest p s ≡ true → better p w s r c ≡ true →
     (some-better p w s r ≡ true) × (better p w s r (first-better p w s r) ≡ true) × Not-after p (first-better p w s r) c
 
+-- the rules of a seat: enter, propose, echo, finish and commit
+abbrev pub is-seat-rule : Call → Bool
+is-seat-rule (tick _ _) = false
+is-seat-rule (enter _) = true
+is-seat-rule (propose _ _ _) = true
+is-seat-rule (echo _ _) = true
+is-seat-rule (finish _ _) = true
+is-seat-rule (commit _ _) = true
+is-seat-rule (deliver _ _ _ _) = false
+is-seat-rule (forge _ _ _ _) = false
+is-seat-rule (seal _ _ _) = false
+
+-- how many lines of a journal accept one of them
+abbrev pub rules-used : List Line → ℕ
+rules-used [] = 0
+rules-used (j ∷ js) = cond (is-accepted (j .answer) && is-seat-rule (j .call)) 1 0 + rules-used js
+
+-- only so many do, however long the journal is: for each seat and round an enter, a proposal, two echoes to a rank, a finish and a commit
+abbrev pub Runs-end : Plan → Type 0
+Runs-end p = (js : List Line) (w : World) → Kept p js w → rules-used js ≤ p .n * (p .rounds * (2 * p .n + 4))
+
+-- all that is promised of a plan
 pub record Promises (p : Plan) : Type 0 where
   pub catalogues-agree : Catalogues-agree p
   pub no-entry-twice : No-entry-twice p
@@ -137,3 +165,4 @@ pub record Promises (p : Plan) : Type 0 where
   pub seals-are-journaled : Seals-are-journaled p
   pub posts-are-journaled : Posts-are-journaled p
   pub better-is-named : Better-is-named p
+  pub runs-end : Runs-end p

@@ -24,9 +24,8 @@ impl<'a> ListedBook<'a> {
     pub fn new(records: &'a mut [SealRecord; 8216]) -> ListedBook<'a>
         ensures { λ r. ⌜ contents (r .records) ≡ [] ⌝ }
     {
-        ListedBook {
-            records: BoundedList::new(records),
-        }
+        let list = BoundedList::new(records);
+        ListedBook { records: list }
     }
 
     /// Hands an empty book over the buffer to its user; room for fewer than 8,216 is refused, and left as it is.

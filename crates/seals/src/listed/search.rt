@@ -9,7 +9,7 @@ use crate::record::SealRecord;
 use basics::mask;
 
 /// Whether there can be such a seal.
-pub fn allows(kind: u8, seat: u8, subject: u16) -> bool
+pub(super) fn allows(kind: u8, seat: u8, subject: u16) -> bool
     ensures { λ r. ⌜ r ≡ allowed kind seat subject ⌝ }
 {
     if seat >= 13 || subject < 1 {
@@ -22,7 +22,7 @@ pub fn allows(kind: u8, seat: u8, subject: u16) -> bool
 }
 
 /// Whether the list has the seal.
-pub fn find(records: &[SealRecord], kind: u8, seat: u8, subject: u16) -> bool
+pub(super) fn find(records: &[SealRecord], kind: u8, seat: u8, subject: u16) -> bool
     ensures { λ r. ⌜ r ≡ listed (now (records .entry)) kind seat subject ⌝ }
 {
     for x in records {
@@ -44,7 +44,7 @@ fn joined(m: u16, x: SealRecord, kind: u8, subject: u16) -> u16
 }
 
 /// The seats that have sealed the kind and the subject.
-pub fn signers(records: &[SealRecord], kind: u8, subject: u16) -> u16
+pub(super) fn signers(records: &[SealRecord], kind: u8, subject: u16) -> u16
     ensures { λ r. ⌜ ((s : ℕ) → s < 13 → bit r s ≡ listed (now (records .entry)) kind s subject) ⌝ }
 {
     let mut m = 0;

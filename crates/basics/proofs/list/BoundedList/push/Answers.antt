@@ -10,8 +10,10 @@ use Rattle.basics.proofs.list.BoundedList.push.Needs as need
 
 pub returns-then-self : need.returns-then-self
 returns-then-self g c =
-    let full = take-all (c .args .self .now .len) (c .args .self .now .items .now) (c .if-self .taken) in
-    record { answer = sym (le-ltb _ _ (omega (arith, ap length full))); after = refl; space = refl }
+    let l = c .args .self .now .items .now in
+    let n = c .args .self .now .len in
+    let full = take-all n l (c .if-self .taken) in
+    record { answer = sym (le-ltb _ _ (omega (arith, ap length full))); after = refl {a = take n l}; space = refl {a = length l} }
 
 pub returns : need.returns
 returns g c =

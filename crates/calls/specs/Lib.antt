@@ -1,0 +1,2 @@
+-- Calls as the rules speak of them.
+pub mod Asked

@@ -1,0 +1,60 @@
+-- What a call on a hall answers and leaves, in the terms of the rules.
+use mathlib.Core.Path.{_≡_}
+use mathlib.Core.Bool.{Bool, cond, not, _&&_}
+use mathlib.Core.List.{List, [], _∷_, _++_}
+use Prim.Native.Nat.{ℕ}
+use lib.Dec.{ltb}
+use Rattle.std.specs.declared.result.Result.{Result}
+use Rattle.std.specs.declared.result.Result.the-variants.{Ok, Err}
+use Rattle.basics.specs.declared.numbers.SeatIndex.{SeatIndex}
+use Rattle.basics.specs.declared.numbers.BlockNumber.{BlockNumber}
+use Rattle.model.specs.Setup.{Plan as Model}
+use Rattle.model.specs.Setup.{honest, Lawful}
+use Rattle.model.specs.World.{World}
+use Rattle.model.specs.Checks.{Call, Verdict, verdict, known}
+use Rattle.model.specs.Effects.{after}
+use Rattle.model.specs.Journal.{Line, Kept}
+use Rattle.model.specs.Promises.{Promises}
+use Rattle.plans.specs.Planned.{model}
+use Rattle.plans.specs.declared.plan.Plan.{Plan}
+use Rattle.hall.specs.Worlds.{world}
+use Rattle.hall.specs.declared.hall.Hall.{Hall}
+use Rattle.hall.specs.declared.fault.HallFault.{HallFault}
+use Rattle.hall.specs.declared.fault.HallFault.the-variants.{NoSeat, OtherSort, OutOfRange}
+
+-- the number inside an answer
+abbrev pub seat-answer : Result SeatIndex HallFault → Result ℕ HallFault
+seat-answer (Ok s) = Ok (s .value)
+seat-answer (Err f) = Err f
+
+abbrev pub block-answer : Result BlockNumber HallFault → Result ℕ HallFault
+block-answer (Ok b) = Ok (b .value)
+block-answer (Err f) = Err f
+
+-- the seat that a call names, if there is such a seat and it is of the right sort
+abbrev pub seat-if : Model → Bool → ℕ → Result ℕ HallFault
+seat-if p right-sort s = cond (ltb s (p .n)) (cond right-sort (Ok s) (Err OtherSort)) (Err NoSeat)
+
+-- the block that a call names, if it is the root or was made
+abbrev pub block-if : Model → World → ℕ → Result ℕ HallFault
+block-if p w b = cond (known p w b) (Ok b) (Err OutOfRange)
+
+-- the law: every lawful plan keeps every promise in every complete journal
+abbrev pub The-law : Type 0
+The-law = (p : Model) → Lawful p → Promises p
+
+module _ {B : Type 0} (held : B → ℕ → ℕ → ℕ → Bool) where
+  -- The call c took the hall from h to h', and v is its verdict: the verdict and the state after are those of the rules; the journal of
+  -- every call since the opening goes on by this line; and the plan, which stays, keeps every promise.
+  pub record Called (h h' : Hall B) (c : Call) (v : Verdict) : Type 0 where
+    pub plan-stays : h' .plan ≡ h .plan
+    pub judged : v ≡ verdict (model (h .plan)) (world held h) c
+    pub left : world held h' ≡ after (model (h .plan)) (world held h) c
+    pub journal : (js : List Line) → Kept (model (h .plan)) js (world held h) → Kept (model (h' .plan)) (js ++ (record { call = c; answer = v } ∷ [])) (world held h')
+    pub promises : Promises (model (h' .plan))
+
+  -- A hall was opened with the plan x: its state is the opening, its journal is empty, and its plan keeps every promise.
+  pub record Opened (x : Plan) (h : Hall B) : Type 0 where
+    pub plan-taken : h .plan ≡ x
+    pub journal : Kept (model x) [] (world held h)
+    pub promises : Promises (model x)
