@@ -3,3 +3,4 @@ pub mod Updates
 pub mod Steps
 pub mod Ranges
 pub mod Proposals
+pub mod Openings

@@ -12,7 +12,7 @@ use Rattle.model.specs.Setup.{Plan as Model}
 use Rattle.model.specs.Setup.{honest, Lawful}
 use Rattle.model.specs.World.{World}
 use Rattle.model.specs.Checks.{Call, Verdict, verdict, known}
-use Rattle.model.specs.Effects.{after}
+use Rattle.model.specs.Effects.{after, opening}
 use Rattle.model.specs.Journal.{Line, Kept}
 use Rattle.model.specs.Promises.{Promises}
 use Rattle.plans.specs.Planned.{model}
@@ -56,5 +56,6 @@ module _ {B : Type 0} (held : B → ℕ → ℕ → ℕ → Bool) where
   -- A hall was opened with the plan x: its state is the opening, its journal is empty, and its plan keeps every promise.
   pub record Opened (x : Plan) (h : Hall B) : Type 0 where
     pub plan-taken : h .plan ≡ x
+    pub state : world held h ≡ opening (model x)
     pub journal : Kept (model x) [] (world held h)
     pub promises : Promises (model x)

@@ -1,12 +1,14 @@
 -- The steps of a call: a seat's rule runs, and what it hands back is posted.
 use mathlib.Core.Path.{_≡_}
-use mathlib.Core.Bool.{Bool, cond, _&&_, _||_}
-use mathlib.Core.List.{List, []}
+use mathlib.Core.Bool.{Bool, false, cond, _&&_, _||_}
+use mathlib.Core.List.{List, [], _∷_}
 use Prim.Native.Nat.{ℕ}
-use lib.Dec.{eqb}
+use lib.Dec.{eqb, ltb}
 use Rattle.basics.specs.Put.{put}
 use Rattle.model.specs.Setup.{Plan as Model}
-use Rattle.model.specs.World.{World, has}
+use Rattle.model.specs.Setup.{honest}
+use Rattle.model.specs.Seats.{fresh}
+use Rattle.model.specs.World.{World, has, beacon-share, same}
 use Rattle.model.specs.World.{Seat as Model-seat}
 use Rattle.model.specs.World.{Message as Said}
 use Rattle.model.specs.Checks.{Call, Verdict, caller}
@@ -51,3 +53,15 @@ module _ {B : Type 0} (held : B → ℕ → ℕ → ℕ → Bool) where
     pub judged : v ≡ verdict-past k (model (h .plan)) (world held h) c
     pub sends : out ≡ cond (accepts k (model (h .plan)) (world held h) c) (broadcast (model (h .plan)) (world held h) c) []
     pub left : world held h' ≡ ruled k (model (h .plan)) (world held h) c
+
+-- the state with the beacon share of round 1 of the seat s sealed and posted
+abbrev pub sharing : ℕ → World → World
+sharing s w = record {
+  made = w .made;
+  parent = w .parent;
+  places = w .places;
+  sealed = sealed-with (beacon-share s 1 ∷ []) (w .sealed);
+  pool = λ s' m. (eqb s s' && has (beacon-share s 1 ∷ []) m) || w .pool s' m;
+  posted = λ m. has (beacon-share s 1 ∷ []) m || w .posted m;
+  seat = w .seat;
+}

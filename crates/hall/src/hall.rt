@@ -8,6 +8,7 @@ use tree::tree::Tree;
 
 mod admit;
 pub mod honest;
+pub mod open;
 
 /// An open hall: its plan, the blocks, the seats with their pools, the marks of what was broadcast, and the seal book.
 #[derive(Drop)]
