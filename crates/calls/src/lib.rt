@@ -1,4 +1,7 @@
 //! The nine calls of a hall.
+ghost use mathlib.Core.Path.{_≡_};
+ghost use Rattle.model.specs.Checks.{caller};
+ghost use Rattle.calls.specs.Asked.{asked, named-subject};
 
 /// A call, with what it is given: places are those of a block's payload.
 #[derive(Drop)]
@@ -53,4 +56,40 @@ pub enum Call<'a> {
         kind: u8,
         subject: u16,
     },
+}
+
+impl<'a> Call<'a> {
+    /// The seat that the call is made for.
+    pub fn seat(&self) -> u8
+        ensures { λ r. ⌜ r ≡ caller (asked (now (self .entry))) ⌝ }
+    {
+        match self {
+            Call::Tick { seat, .. } => *seat,
+            Call::Enter { seat } => *seat,
+            Call::Propose { seat, .. } => *seat,
+            Call::Echo { seat, .. } => *seat,
+            Call::Finish { seat, .. } => *seat,
+            Call::Commit { seat, .. } => *seat,
+            Call::Deliver { seat, .. } => *seat,
+            Call::Forge { seat, .. } => *seat,
+            Call::Seal { seat, .. } => *seat,
+        }
+    }
+
+    /// The block, parent or message subject that the call names, or 0.
+    pub fn subject(&self) -> u16
+        ensures { λ r. ⌜ r ≡ named-subject (asked (now (self .entry))) ⌝ }
+    {
+        match self {
+            Call::Tick { .. } => 0,
+            Call::Enter { .. } => 0,
+            Call::Propose { parent, .. } => *parent,
+            Call::Echo { block, .. } => *block,
+            Call::Finish { block, .. } => *block,
+            Call::Commit { block, .. } => *block,
+            Call::Deliver { subject, .. } => *subject,
+            Call::Forge { parent, .. } => *parent,
+            Call::Seal { subject, .. } => *subject,
+        }
+    }
 }

@@ -4,3 +4,5 @@ pub mod Steps
 pub mod Ranges
 pub mod Proposals
 pub mod Openings
+pub mod Forgeries
+pub mod Sealings

@@ -26,7 +26,7 @@ payload-found xs ys e = found (payload-ok xs) e
     found true h = (cc, refl)
     found false h = let z : _≡_ {A = ℕ} 0 1 = cc in absurd (omega arith)
 
-not-ok : (xs : List ℕ) → None ≡ list-if-ok xs → payload-ok xs ≡ false
+pub not-ok : (xs : List ℕ) → None ≡ list-if-ok xs → payload-ok xs ≡ false
 not-ok xs e = missed (payload-ok xs) e
   where
     missed : (b : Bool) → None ≡ cond {A = Option (List ℕ)} b (Some xs) None → b ≡ false

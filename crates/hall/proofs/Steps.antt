@@ -1,18 +1,18 @@
 -- From what the parts of a call promise to what the rules say of the call.
 use mathlib.Core.Path.{_≡_, refl, sym, ap, ap₂, subst, _∙_}
-use mathlib.Core.Bool.{Bool, true, false, cond, _&&_, _||_}
+use mathlib.Core.Bool.{Bool, true, false, cond, not, _&&_, _||_}
 use mathlib.Core.List.{List, [], _∷_, _++_}
 use Prim.Native.Nat.{ℕ, _<_, _≤_}
 use native.Mathlib.Omega.{arith}
-use lib.Dec.{ltb}
+use lib.Dec.{eqb, ltb, leb}
 use Rattle.std.specs.Results.{isOk}
 use Rattle.std.specs.declared.result.Result.{Result}
 use Rattle.std.specs.declared.result.Result.the-variants.{Ok, Err}
-use Rattle.std.proofs.shelf.Tests.{cond-true, cond-false}
+use Rattle.std.proofs.shelf.Tests.{cond-true, cond-false, ne-eqb}
 use Rattle.model.specs.Setup.{Plan as Model}
-use Rattle.model.specs.World.{World}
+use Rattle.model.specs.World.{World, message}
 use Rattle.model.specs.World.{Message as Said}
-use Rattle.model.specs.Checks.{Call, Check, Verdict, caller, verdict, first-failed, known}
+use Rattle.model.specs.Checks.{Call, Check, Verdict, caller, verdict, first-failed, known, in-range}
 use Rattle.model.specs.Checks.Check.{must}
 use Rattle.model.specs.Checks.Verdict.{accepted, refused}
 use Rattle.model.specs.Effects.{is-accepted, after, effect, broadcast, seals, seat-after, with-new-block}
@@ -31,8 +31,8 @@ use Rattle.hall.specs.declared.fault.HallFault.{HallFault}
 use Rattle.hall.specs.declared.fault.HallFault.the-variants.{NoSeat, OtherSort, OutOfRange, Seat}
 use Rattle.hall.specs.Faults.{fault-verdict}
 use Rattle.hall.specs.Worlds.{world}
-use Rattle.hall.specs.Steps.{posting, seating, ruled, Ran}
-use Rattle.hall.specs.Answers.{seat-if, block-if, Called}
+use Rattle.hall.specs.Steps.{posting, seating, ruled, Ran, Decided}
+use Rattle.hall.specs.Answers.{seat-if, block-if, message-if, Called}
 
 -- The checks that begin a call, by what the code found.
 seat-cases : (a b : Bool) (s x i : ℕ) (rest : List Check) → Ok i ≡ cond {A = Result ℕ HallFault} a (cond b (Ok s) (Err OtherSort)) (Err NoSeat)
@@ -74,6 +74,41 @@ block-found p w s b i rest e = block-cases (known p w b) s b i rest e
 pub block-missed : (p : Model) (w : World) (s b : ℕ) (f : HallFault) (rest : List Check) → Err f ≡ block-if p w b
     → fault-verdict s b f ≡ first-failed (must (known p w b) 10 3 s b ∷ rest)
 block-missed p w s b f rest e = block-stops (known p w b) s b f rest e
+
+message-cases : (a : Bool) (s x : ℕ) (m n : Said) (rest : List Check) → Ok m ≡ cond {A = Result Said HallFault} a (Ok n) (Err OutOfRange)
+    → (m ≡ n) × ((a ≡ true) × (first-failed (must a 10 3 s x ∷ rest) ≡ first-failed rest))
+message-cases true s x m n rest e = (cc, (refl, refl))
+message-cases false s x m n rest e = let z : _≡_ {A = ℕ} 0 1 = cc in absurd (omega arith)
+
+message-stops : (a : Bool) (s x : ℕ) (n : Said) (f : HallFault) (rest : List Check) → Err f ≡ cond {A = Result Said HallFault} a (Ok n) (Err OutOfRange)
+    → (a ≡ false) × (fault-verdict s x f ≡ first-failed (must a 10 3 s x ∷ rest))
+message-stops true s x n f rest e = let z : _≡_ {A = ℕ} 0 1 = cc in absurd (omega arith)
+message-stops false s x n f rest e = let g : f ≡ OutOfRange = cc in (refl, ap (fault-verdict s x) g)
+
+pub message-found : (p : Model) (w : World) (s kind signer x : ℕ) (m : Said) (rest : List Check) → Ok m ≡ message-if p w kind signer x
+    → (m ≡ message kind signer x) × ((in-range p w kind signer x ≡ true) × (first-failed (must (in-range p w kind signer x) 10 3 s x ∷ rest) ≡ first-failed rest))
+message-found p w s kind signer x m rest e = message-cases (in-range p w kind signer x) s x m (message kind signer x) rest e
+
+pub message-missed : (p : Model) (w : World) (s kind signer x : ℕ) (f : HallFault) (rest : List Check) → Err f ≡ message-if p w kind signer x
+    → (in-range p w kind signer x ≡ false) × (fault-verdict s x f ≡ first-failed (must (in-range p w kind signer x) 10 3 s x ∷ rest))
+message-missed p w s kind signer x f rest e = message-stops (in-range p w kind signer x) s x (message kind signer x) f rest e
+
+-- a message about an unknown block
+pub unknown-message : (p : Model) (w : World) (kind signer x : ℕ) (f : HallFault) → (kind ≡ 6 → ⊥) → Err f ≡ block-if p w x → Err f ≡ message-if p w kind signer x
+unknown-message p w kind signer x f ne e = stops (known p w x) refl e
+  where
+    off : (a b n c : Bool) → (a && (b && ((n && false) && c))) ≡ false
+    off a b n c = grind arith
+
+    stops : (k : Bool) → known p w x ≡ k → Err f ≡ cond {A = Result ℕ HallFault} k (Ok x) (Err OutOfRange) → Err f ≡ message-if p w kind signer x
+    stops true is h = let z : _≡_ {A = ℕ} 0 1 = cc in absurd (omega arith)
+    stops false is h =
+        let g : f ≡ OutOfRange = cc in
+        let six : eqb kind 6 ≡ false = ne-eqb kind 6 ne in
+        let not-in : in-range p w kind signer x ≡ false =
+            (λ i. cond (six i) (ltb signer (p .n) && (leb 1 x && leb x (p .rounds))) (leb 1 kind && (ltb kind 6 && ((not (eqb x 0) && is i) && cond (eqb kind 2 || eqb kind 4) (ltb signer (p .n)) (eqb signer 0)))))
+            ∙ off (leb 1 kind) (ltb kind 6) (not (eqb x 0)) (cond (eqb kind 2 || eqb kind 4) (ltb signer (p .n)) (eqb signer 0)) in
+        ap Err g ∙ sym (cond-false (in-range p w kind signer x) (Ok (message kind signer x)) (Err OutOfRange) not-in)
 
 -- What every call owes, from its verdict and the state after it.
 module _ {B : Type 0} (held : B → ℕ → ℕ → ℕ → Bool) (h : Hall B) (c : Call) where
@@ -135,3 +170,10 @@ module _ {B : Type 0} (held : B → ℕ → ℕ → ℕ → Bool) (h : Hall B) (
             (ran .sends ∙ cond-true (accepts k p w c) (broadcast p w c) [] go)
             (ran .left ∙ cond-true (accepts k p w c) (seating (caller c) (seat-after p w c) (seals p w c) (with-new-block p w c)) w go)
           ∙ whole)
+
+    -- past the hall's k checks its own rule decides
+    pub decided : (h' : Hall B) (v : Verdict) → Decided held k h h' c v → Called held h h' c v
+    decided h' v d =
+        let p = model (h .plan) in
+        let w = world held h in
+        settles h' v (d .plan-stays) (d .judged ∙ sym past) (d .left ∙ ap (λ (u : Verdict). cond (is-accepted u) (effect p w c) w) (sym past))

@@ -85,8 +85,25 @@ module _ (made : ℕ → Bool) (parent : ℕ → ℕ) (places : ℕ → List ℕ
         made = made; parent = parent; places = places; sealed = sealed;
         pool = λ s'. pooled (getD seats s' no-seat); posted = posted; seat = put-same s (λ k. seated (getD seats k no-seat)) i }
 
-  joins : (e y f : Bool) → cond e (y || f) f ≡ ((e && y) || f)
-  joins e y f = grind arith
+  -- the messages ms have come into the pool of the seat s
+  pub pool-with : (s : ℕ) (x : Seat) (ms : List Said) → s < length seats → pooled x ≡ with-all ms (pooled (getD seats s no-seat))
+      → _≡_ {A = ℕ → Said → Bool} (λ s'. pooled (getD (set seats s x) s' no-seat)) (λ s' m. (eqb s s' && has ms m) || pooled (getD seats s' no-seat) m)
+  pool-with s x ms low more =
+      let f : ℕ → Said → Bool = λ k. pooled (getD seats k no-seat) in
+      let at : (s' : ℕ) (m : Said) → put s (with-all ms (f s)) f s' m ≡ ((eqb s s' && has ms m) || f s' m) =
+          (λ s' m. ⊎-elim
+              (λ (e : s ≡ s'). ap (λ (g : Said → Bool). g m) (cond-true (eqb s s') (with-all ms (f s)) (f s') (eq-eqb s s' e)) ∙ ap (λ k. has ms m || f k m) e
+                  ∙ sym (ap (λ b. (b && has ms m) || f s' m) (eq-eqb s s' e)))
+              (λ (ne : s ≡ s' → ⊥). ap (λ (g : Said → Bool). g m) (cond-false (eqb s s') (with-all ms (f s)) (f s') (ne-eqb s s' ne))
+                  ∙ sym (ap (λ b. (b && has ms m) || f s' m) (ne-eqb s s' ne)))
+              (cases-eq s s')) in
+      field-put pooled seats s x no-seat low ∙ ap (λ (g : Said → Bool). put s g f) more ∙ (λ i s' m. at s' m i)
+
+  -- the seat s is as it was
+  pub seat-kept : (s : ℕ) (x : Seat) → s < length seats → seated x ≡ seated (getD seats s no-seat)
+      → _≡_ {A = ℕ → Model-seat} (λ s'. seated (getD (set seats s x) s' no-seat)) (λ s'. seated (getD seats s' no-seat))
+  seat-kept s x low same =
+      field-put seated seats s x no-seat low ∙ ap (λ (st : Model-seat). put s st (λ k. seated (getD seats k no-seat))) same ∙ put-same s (λ k. seated (getD seats k no-seat))
 
   -- the seat s has posted messages
   pub posted-by : (s : ℕ) (x : Seat) (ms : List Said) (posted′ : Said → Bool) → s < length seats
@@ -96,18 +113,21 @@ module _ (made : ℕ → Bool) (parent : ℕ → ℕ) (places : ℕ → List ℕ
             pool = λ s'. pooled (getD (set seats s x) s' no-seat); posted = posted′; seat = λ s'. seated (getD (set seats s x) s' no-seat) })
           (posting s ms state)
   posted-by s x ms posted′ low more same marks =
-      let f : ℕ → Said → Bool = λ k. pooled (getD seats k no-seat) in
-      let at : (s' : ℕ) (m : Said) → put s (with-all ms (f s)) f s' m ≡ ((eqb s s' && has ms m) || f s' m) =
-          (λ s' m. ⊎-elim
-              (λ (e : s ≡ s'). ap (λ (g : Said → Bool). g m) (cond-true (eqb s s') (with-all ms (f s)) (f s') (eq-eqb s s' e)) ∙ ap (λ k. has ms m || f k m) e
-                  ∙ sym (ap (λ b. (b && has ms m) || f s' m) (eq-eqb s s' e)))
-              (λ (ne : s ≡ s' → ⊥). ap (λ (g : Said → Bool). g m) (cond-false (eqb s s') (with-all ms (f s)) (f s') (ne-eqb s s' ne))
-                  ∙ sym (ap (λ b. (b && has ms m) || f s' m) (ne-eqb s s' ne)))
-              (cases-eq s s')) in
-      let pools = field-put pooled seats s x no-seat low ∙ ap (λ (g : Said → Bool). put s g f) more in
-      let seats-same = field-put seated seats s x no-seat low ∙ ap (λ (st : Model-seat). put s st (λ k. seated (getD seats k no-seat))) same ∙ put-same s (λ k. seated (getD seats k no-seat)) in
-      (λ i. record { made = made; parent = parent; places = places; sealed = sealed; pool = pools i; posted = marks i; seat = seats-same i })
-      ∙ (λ i. record { made = made; parent = parent; places = places; sealed = sealed; pool = λ s' m. at s' m i; posted = with-all ms posted; seat = λ k. seated (getD seats k no-seat) })
+      let pools = pool-with s x ms low more in
+      let kept = seat-kept s x low same in
+      λ i. record { made = made; parent = parent; places = places; sealed = sealed; pool = pools i; posted = marks i; seat = kept i }
+
+  -- the messages ms have arrived at the seat s
+  pub arrived-at : (i s : ℕ) (x : Seat) (ms : List Said) → i ≡ s → i < length seats
+      → pooled x ≡ with-all ms (pooled (getD seats i no-seat)) → seated x ≡ seated (getD seats i no-seat)
+      → _≡_ {A = World} (written made parent places sealed x i)
+          (record { made = made; parent = parent; places = places; sealed = sealed; posted = posted;
+            pool = λ s' m. (eqb s s' && has ms m) || pooled (getD seats s' no-seat) m; seat = put s (seated (getD seats s no-seat)) (λ s'. seated (getD seats s' no-seat)) })
+  arrived-at i s x ms e low more same =
+      let pools = pool-with i x ms low more ∙ (λ j s' m. (eqb (e j) s' && has ms m) || pooled (getD seats s' no-seat) m) in
+      let back = sym (put-same s (λ k. seated (getD seats k no-seat))) in
+      let kept = seat-kept i x low same ∙ back in
+      λ j. record { made = made; parent = parent; places = places; sealed = sealed; pool = pools j; posted = posted; seat = kept j }
 
 nothing-more : (e f : Bool) → ((e && false) || f) ≡ f
 nothing-more e f = grind arith
@@ -123,3 +143,12 @@ posting-none s w = λ i. record {
 pub no-seals : (go : Bool) (sealed : ℕ → ℕ → ℕ → Bool) → sealed ≡ sealed-with (cond go [] []) sealed
 no-seals true sealed = refl
 no-seals false sealed = refl
+
+-- no pool and no seat changes
+pub quietly : (s : ℕ) (w : World) → _≡_ {A = World} w (record {
+    made = w .made; parent = w .parent; places = w .places; sealed = w .sealed;
+    pool = λ s' m. (eqb s s' && false) || w .pool s' m; posted = w .posted; seat = put s (w .seat s) (w .seat) })
+quietly s w =
+    let kept = sym (put-same s (w .seat)) in
+    let none : (s' : ℕ) (m : Said) → w .pool s' m ≡ ((eqb s s' && false) || w .pool s' m) = (λ s' m. sym (nothing-more (eqb s s') (w .pool s' m))) in
+    λ i. record { made = w .made; parent = w .parent; places = w .places; sealed = w .sealed; pool = λ s' m. none s' m i; posted = w .posted; seat = kept i }

@@ -12,7 +12,7 @@ use Rattle.model.specs.World.{World, has, beacon-share, same}
 use Rattle.model.specs.World.{Seat as Model-seat}
 use Rattle.model.specs.World.{Message as Said}
 use Rattle.model.specs.Checks.{Call, Verdict, caller}
-use Rattle.model.specs.Effects.{seals, broadcast, with-new-block, seat-after}
+use Rattle.model.specs.Effects.{seals, broadcast, with-new-block, seat-after, effect}
 use Rattle.plans.specs.Planned.{model}
 use Rattle.seats.specs.Desk.{verdict-past, accepts, sealed-with}
 use Rattle.hall.specs.Worlds.{world}
@@ -65,3 +65,10 @@ sharing s w = record {
   posted = λ m. has (beacon-share s 1 ∷ []) m || w .posted m;
   seat = w .seat;
 }
+
+module _ {B : Type 0} (held : B → ℕ → ℕ → ℕ → Bool) where
+  -- the hall's own rule decided the call c past its first k checks, with the verdict v, and took the hall from h to h'
+  pub record Decided (k : ℕ) (h h' : Hall B) (c : Call) (v : Verdict) : Type 0 where
+    pub plan-stays : h' .plan ≡ h .plan
+    pub judged : v ≡ verdict-past k (model (h .plan)) (world held h) c
+    pub left : world held h' ≡ cond (accepts k (model (h .plan)) (world held h) c) (effect (model (h .plan)) (world held h) c) (world held h)

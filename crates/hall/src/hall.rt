@@ -7,8 +7,11 @@ use seats::seat::Seat;
 use tree::tree::Tree;
 
 mod admit;
+pub mod corrupt;
+pub mod deliver;
 pub mod honest;
 pub mod open;
+pub mod perform;
 
 /// An open hall: its plan, the blocks, the seats with their pools, the marks of what was broadcast, and the seal book.
 #[derive(Drop)]

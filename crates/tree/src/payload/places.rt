@@ -3,7 +3,7 @@ ghost use mathlib.Core.Path.{_≡_};
 ghost use mathlib.Core.List.{[]};
 ghost use Prim.Native.Nat.{ℕ, _≤_};
 ghost use lib.ListN.{length, take};
-ghost use Rattle.model.specs.Checks.{all-below-128};
+ghost use Rattle.model.specs.Checks.{all-below-128, same-list};
 ghost use Rattle.tree.specs.Payloads.{listed, payload-list, list-if-ok};
 use super::Payload;
 
@@ -29,6 +29,21 @@ fn table_of(places: &[u8]) -> [u8; 4]
         table[i] = places[i];
     }
     table
+}
+
+// whether two lists of places are the same, in the same order
+fn same_places(a: &[u8], b: &[u8]) -> bool
+    ensures { λ r. ⌜ r ≡ same-list (now (a .entry)) (now (b .entry)) ⌝ }
+{
+    if a.len() != b.len() {
+        return false;
+    }
+    for i in 0..a.len() {
+        if a[i] != b[i] {
+            return false;
+        }
+    }
+    true
 }
 
 impl Payload {
@@ -58,5 +73,12 @@ impl Payload {
         ensures { λ r. ⌜ now r ≡ listed (now (self .entry)) ⌝ }
     {
         &self.places[0..self.count as usize]
+    }
+
+    /// Whether the other has the same places in the same order.
+    pub fn is_same(&self, other: &Payload) -> bool
+        ensures { λ r. ⌜ r ≡ same-list (listed (now (self .entry))) (listed (now (other .entry))) ⌝ }
+    {
+        same_places(self.as_slice(), other.as_slice())
     }
 }
