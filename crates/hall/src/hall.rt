@@ -12,6 +12,7 @@ pub mod deliver;
 pub mod honest;
 pub mod open;
 pub mod perform;
+pub mod read;
 
 /// An open hall: its plan, the blocks, the seats with their pools, the marks of what was broadcast, and the seal book.
 #[derive(Drop)]

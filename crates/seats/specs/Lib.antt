@@ -4,3 +4,4 @@ pub mod Sent
 pub mod Seated
 pub mod Desk
 pub mod Searches
+pub mod Standings

@@ -23,6 +23,15 @@ pub enum Phase {
     Done,
 }
 
+/// How a seat stands: its phase, its round, the highest committed round, and so many committed blocks, lowest round first.
+#[derive(Clone, Copy)]
+pub struct Standing {
+    pub phase: Phase,
+    pub round: u8,
+    pub k_max: u8,
+    pub catalogue: [u16; 8],
+}
+
 /// A seat: its phase and round, its clock and the start of its round, whether it proposed, the blocks it noted and the ranks it
 /// disqualified in its round, how far it committed, its catalogue and its pool.
 #[derive(Clone, Copy)]

@@ -13,9 +13,11 @@ ghost use Rattle.model.specs.Seats.{fresh, at-clock};
 ghost use Rattle.messages.specs.Meaning.{means};
 ghost use Rattle.messages.specs.Stored.{joined, nothing};
 ghost use Rattle.seats.specs.Seated.{stage, seated, pooled};
+ghost use Rattle.seats.specs.Standings.{Stands};
 ghost use Rattle.seats.specs.declared.fault.SeatFault.the-variants.{Clock};
 use super::Phase;
 use super::Seat;
+use super::Standing;
 use crate::fault::SeatFault;
 use basics::numbers::Round;
 use messages::message::Message;
@@ -94,6 +96,19 @@ impl Seat {
         ensures { λ r. ⌜ now r ≡ seated (now (self .entry)) .catalogue ⌝ }
     {
         &self.catalogue[0..self.k_max as usize]
+    }
+
+    /// How the seat stands.
+    pub fn standing(&self) -> Standing
+        ensures { λ r. ⌜ Stands r (seated (now (self .entry))) ⌝ }
+    {
+        let catalogue = self.catalogue;
+        Standing {
+            phase: self.phase,
+            round: self.round.value(),
+            k_max: self.k_max,
+            catalogue,
+        }
     }
 
     /// What setting the clock to this time would answer: a clock never goes back, nor past 1,000,000,000.

@@ -1,0 +1,3 @@
+-- Frames, as the rules of the page speak of them.
+pub mod Frames
+pub mod Shape

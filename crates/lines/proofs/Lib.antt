@@ -1,0 +1,4 @@
+-- Lemmas on lines.
+pub mod OutputLaws
+pub mod LineLaws
+pub mod PairLaws

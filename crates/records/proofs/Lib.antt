@@ -1,0 +1,2 @@
+-- Lemmas on the frames of a record.
+pub mod FrameLaws

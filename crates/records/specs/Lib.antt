@@ -1,0 +1,2 @@
+-- The frames of a record.
+pub mod Frames
