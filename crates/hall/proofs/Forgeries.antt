@@ -56,12 +56,12 @@ module _ (p : Model) (w : World) (s k par : ℕ) (xs : List ℕ) (rest : List Ch
   parent-missed f e =
       let q = stopped (known p w par) par f e in
       fails f (regroup (leb 1 k) (leb k (p .rounds)) (known p w par) (payload-ok xs) ∙ ap (λ b. (leb 1 k && leb k (p .rounds)) && (b && payload-ok xs)) (q .0)
-        ∙ off-parent (leb 1 k) (leb k (p .rounds)) (payload-ok xs)) (q .1)
+      ∙ off-parent (leb 1 k) (leb k (p .rounds)) (payload-ok xs)) (q .1)
 
   pub places-missed : None ≡ list-if-ok xs → fault-verdict s par OutOfRange ≡ first-failed (must third 10 3 s par ∷ rest)
   places-missed n =
       fails OutOfRange (regroup (leb 1 k) (leb k (p .rounds)) (known p w par) (payload-ok xs) ∙ ap (λ b. (leb 1 k && leb k (p .rounds)) && (known p w par && b)) (not-ok xs n)
-        ∙ off-places (leb 1 k) (leb k (p .rounds)) (known p w par)) refl
+      ∙ off-places (leb 1 k) (leb k (p .rounds)) (known p w par)) refl
 
   pub all-found : (leb 1 k && leb k (p .rounds)) ≡ true → known p w par ≡ true → payload-ok xs ≡ true → first-failed (must third 10 3 s par ∷ rest) ≡ first-failed rest
   all-found a b o =

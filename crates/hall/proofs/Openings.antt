@@ -54,18 +54,30 @@ shut-pool h q = refl
 pub opening-none : (p : Model) (made : ℕ → Bool) (parent : ℕ → ℕ) (places : ℕ → List ℕ) (sealed : ℕ → ℕ → ℕ → Bool) (x : Seat) (marks : Said → Bool)
     → made ≡ (λ b. false) → parent ≡ (λ b. 0) → places ≡ (λ b. []) → sealed ≡ (λ k s b. false) → seated x ≡ fresh → pooled x ≡ nothing → marks ≡ nothing
     → _≡_ {A = World} (record {
-        made = made; parent = parent; places = places; sealed = sealed;
-        pool = λ s. pooled (getD (replicate 13 x) s no-seat); posted = marks; seat = λ s. seated (getD (replicate 13 x) s no-seat) }) (opening-below p 0)
+      made = made;
+      parent = parent;
+      places = places;
+      sealed = sealed;
+      pool = λ s. pooled (getD (replicate 13 x) s no-seat);
+      posted = marks;
+      seat = λ s. seated (getD (replicate 13 x) s no-seat);
+    }) (opening-below p 0)
 opening-none p made parent places sealed x marks em ep el es ex eq ek =
     let none : (s : ℕ) → ltb s 0 ≡ false = (λ s. le-ltb s 0 (omega arith)) in
     let seal : (k s b : ℕ) → false ≡ (eqb k 6 && (eqb b 1 && (ltb s 0 && honest p s))) =
-        (λ k s b. shut (eqb k 6) (eqb b 1) (honest p s) ∙ ap (λ z. eqb k 6 && (eqb b 1 && (z && honest p s))) (sym (none s))) in
+    (λ k s b. shut (eqb k 6) (eqb b 1) (honest p s) ∙ ap (λ z. eqb k 6 && (eqb b 1 && (z && honest p s))) (sym (none s))) in
     let seat = (λ (s : ℕ). each-repeated seated x no-seat fresh ex no-seat-fresh 13 s) in
     let pool : (s : ℕ) (m : Said) → pooled (getD (replicate 13 x) s no-seat) m ≡ ((ltb s 0 && honest p s) && same (beacon-share s 1) m) =
-        (λ s m. ap (λ f. f m) (each-repeated pooled x no-seat nothing eq no-seat-empty 13 s) ∙ ap (λ z. (z && honest p s) && same (beacon-share s 1) m) (sym (none s))) in
+    (λ s m. ap (λ f. f m) (each-repeated pooled x no-seat nothing eq no-seat-empty 13 s) ∙ ap (λ z. (z && honest p s) && same (beacon-share s 1) m) (sym (none s))) in
     λ i. record {
-      made = em i; parent = ep i; places = el i; sealed = λ k s b. (ap (λ f. f k s b) es ∙ seal k s b) i;
-      pool = λ s m. pool s m i; posted = λ m. (ap (λ f. f m) ek ∙ seal (m .kind) (m .signer) (m .subject)) i; seat = λ s. seat s i }
+      made = em i;
+      parent = ep i;
+      places = el i;
+      sealed = λ k s b. (ap (λ f. f k s b) es ∙ seal k s b) i;
+      pool = λ s m. pool s m i;
+      posted = λ m. (ap (λ f. f m) ek ∙ seal (m .kind) (m .signer) (m .subject)) i;
+      seat = λ s. seat s i;
+    }
 
 below-next : (i s : ℕ) → ltb s (i + 1) ≡ (eqb i s || ltb s i)
 below-next i s = grind (arith, tells)
@@ -108,23 +120,37 @@ pool-absent false l h q f = refl
 pub opening-next : (p : Model) (i : ℕ) → cond (honest p i) (sharing i (opening-below p i)) (opening-below p i) ≡ opening-below p (i + 1)
 opening-next p i = ⊎-elim
     (λ (y : honest p i ≡ true).
-        let here : (s : ℕ) → eqb i s ≡ true → honest p s ≡ true = (λ s e. ap (honest p) (sym (eqb-true i s e)) ∙ y) in
-        let seal : (k s x : ℕ) → (((eqb 6 k && (eqb i s && eqb 1 x)) || false) || (eqb k 6 && (eqb x 1 && (ltb s i && honest p s)))) ≡ (eqb k 6 && (eqb x 1 && (ltb s (i + 1) && honest p s))) =
-            (λ k s x. (λ j. ((eqb-back 6 k j && (eqb i s && eqb-back 1 x j)) || false) || (eqb k 6 && (eqb x 1 && (ltb s i && honest p s))))
-              ∙ share-joins (eqb k 6) (eqb x 1) (eqb i s) (ltb s i) (honest p s) (here s) ∙ ap (λ z. eqb k 6 && (eqb x 1 && (z && honest p s))) (sym (below-next i s))) in
-        let pool : (s : ℕ) (m : Said) → ((eqb i s && (same (beacon-share i 1) m || false)) || ((ltb s i && honest p s) && same (beacon-share s 1) m)) ≡ ((ltb s (i + 1) && honest p s) && same (beacon-share s 1) m) =
-            (λ s m. pool-joins (eqb i s) (ltb s i) (honest p s) (same (beacon-share s 1) m) (same (beacon-share i 1) m) (here s) (λ e. ap (λ k. same (beacon-share k 1) m) (sym (eqb-true i s e)))
-              ∙ ap (λ z. (z && honest p s) && same (beacon-share s 1) m) (sym (below-next i s))) in
-        cond-true (honest p i) (sharing i (opening-below p i)) (opening-below p i) y
-        ∙ (λ j. record { made = λ _. false; parent = λ _. 0; places = λ _. []; sealed = λ k s x. seal k s x j; pool = λ s m. pool s m j;
-                         posted = λ m. seal (m .kind) (m .signer) (m .subject) j; seat = λ _. fresh }))
+    let here : (s : ℕ) → eqb i s ≡ true → honest p s ≡ true = (λ s e. ap (honest p) (sym (eqb-true i s e)) ∙ y) in
+    let seal : (k s x : ℕ) → (((eqb 6 k && (eqb i s && eqb 1 x)) || false) || (eqb k 6 && (eqb x 1 && (ltb s i && honest p s)))) ≡ (eqb k 6 && (eqb x 1 && (ltb s (i + 1) && honest p s))) =
+    (λ k s x. (λ j. ((eqb-back 6 k j && (eqb i s && eqb-back 1 x j)) || false) || (eqb k 6 && (eqb x 1 && (ltb s i && honest p s))))
+    ∙ share-joins (eqb k 6) (eqb x 1) (eqb i s) (ltb s i) (honest p s) (here s) ∙ ap (λ z. eqb k 6 && (eqb x 1 && (z && honest p s))) (sym (below-next i s))) in
+    let pool : (s : ℕ) (m : Said) → ((eqb i s && (same (beacon-share i 1) m || false)) || ((ltb s i && honest p s) && same (beacon-share s 1) m)) ≡ ((ltb s (i + 1) && honest p s) && same (beacon-share s 1) m) =
+    (λ s m. pool-joins (eqb i s) (ltb s i) (honest p s) (same (beacon-share s 1) m) (same (beacon-share i 1) m) (here s) (λ e. ap (λ k. same (beacon-share k 1) m) (sym (eqb-true i s e)))
+    ∙ ap (λ z. (z && honest p s) && same (beacon-share s 1) m) (sym (below-next i s))) in
+    cond-true (honest p i) (sharing i (opening-below p i)) (opening-below p i) y
+    ∙ (λ j. record {
+      made = λ _. false;
+      parent = λ _. 0;
+      places = λ _. [];
+      sealed = λ k s x. seal k s x j;
+      pool = λ s m. pool s m j;
+      posted = λ m. seal (m .kind) (m .signer) (m .subject) j;
+      seat = λ _. fresh;
+    }))
     (λ (n : honest p i ≡ false).
-        let here : (s : ℕ) → eqb i s ≡ true → honest p s ≡ false = (λ s e. ap (honest p) (sym (eqb-true i s e)) ∙ n) in
-        let seal : (k s x : ℕ) → (eqb k 6 && (eqb x 1 && (ltb s i && honest p s))) ≡ (eqb k 6 && (eqb x 1 && (ltb s (i + 1) && honest p s))) =
-            (λ k s x. share-absent (eqb k 6) (eqb x 1) (eqb i s) (ltb s i) (honest p s) (here s) ∙ ap (λ z. eqb k 6 && (eqb x 1 && (z && honest p s))) (sym (below-next i s))) in
-        let pool : (s : ℕ) (m : Said) → ((ltb s i && honest p s) && same (beacon-share s 1) m) ≡ ((ltb s (i + 1) && honest p s) && same (beacon-share s 1) m) =
-            (λ s m. pool-absent (eqb i s) (ltb s i) (honest p s) (same (beacon-share s 1) m) (here s) ∙ ap (λ z. (z && honest p s) && same (beacon-share s 1) m) (sym (below-next i s))) in
-        cond-false (honest p i) (sharing i (opening-below p i)) (opening-below p i) n
-        ∙ (λ j. record { made = λ _. false; parent = λ _. 0; places = λ _. []; sealed = λ k s x. seal k s x j; pool = λ s m. pool s m j;
-                         posted = λ m. seal (m .kind) (m .signer) (m .subject) j; seat = λ _. fresh }))
+    let here : (s : ℕ) → eqb i s ≡ true → honest p s ≡ false = (λ s e. ap (honest p) (sym (eqb-true i s e)) ∙ n) in
+    let seal : (k s x : ℕ) → (eqb k 6 && (eqb x 1 && (ltb s i && honest p s))) ≡ (eqb k 6 && (eqb x 1 && (ltb s (i + 1) && honest p s))) =
+    (λ k s x. share-absent (eqb k 6) (eqb x 1) (eqb i s) (ltb s i) (honest p s) (here s) ∙ ap (λ z. eqb k 6 && (eqb x 1 && (z && honest p s))) (sym (below-next i s))) in
+    let pool : (s : ℕ) (m : Said) → ((ltb s i && honest p s) && same (beacon-share s 1) m) ≡ ((ltb s (i + 1) && honest p s) && same (beacon-share s 1) m) =
+    (λ s m. pool-absent (eqb i s) (ltb s i) (honest p s) (same (beacon-share s 1) m) (here s) ∙ ap (λ z. (z && honest p s) && same (beacon-share s 1) m) (sym (below-next i s))) in
+    cond-false (honest p i) (sharing i (opening-below p i)) (opening-below p i) n
+    ∙ (λ j. record {
+      made = λ _. false;
+      parent = λ _. 0;
+      places = λ _. [];
+      sealed = λ k s x. seal k s x j;
+      pool = λ s m. pool s m j;
+      posted = λ m. seal (m .kind) (m .signer) (m .subject) j;
+      seat = λ _. fresh;
+    }))
     (cases-bool (honest p i))

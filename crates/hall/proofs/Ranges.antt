@@ -20,9 +20,9 @@ known-round x w b h =
     ⊎-elim
     (λ (e : b ≡ 0). let z : round-of p b ≡ 0 = ap (round-of p) e in omega arith)
     (λ (ne : b ≡ 0 → ⊥).
-        let low : b < numbers p = ⊎-elim (λ z. absurd (ne (eqb-true b 0 z))) (λ z. ltb-true b (numbers p) (and-parts (ltb b (numbers p)) (w .made b) z .0)) (or-cases (eqb b 0) (ltb b (numbers p) && w .made b) h) in
-        let third : (b - 1) / 3 < p .rounds * p .n = omega arith in
-        let round : (b - 1) / 3 / p .n < p .rounds = div-lt-iff-lt-mul (x .some) .1 third in
-        let is : round-of p b ≡ (b - 1) / 3 / p .n + 1 = cond-false (eqb b 0) 0 ((b - 1) / 3 / p .n + 1) (ne-eqb b 0 ne) in
-        omega (arith, is, round, x .last))
+    let low : b < numbers p = ⊎-elim (λ z. absurd (ne (eqb-true b 0 z))) (λ z. ltb-true b (numbers p) (and-parts (ltb b (numbers p)) (w .made b) z .0)) (or-cases (eqb b 0) (ltb b (numbers p) && w .made b) h) in
+    let third : (b - 1) / 3 < p .rounds * p .n = omega arith in
+    let round : (b - 1) / 3 / p .n < p .rounds = div-lt-iff-lt-mul (x .some) .1 third in
+    let is : round-of p b ≡ (b - 1) / 3 / p .n + 1 = cond-false (eqb b 0) 0 ((b - 1) / 3 / p .n + 1) (ne-eqb b 0 ne) in
+    omega (arith, is, round, x .last))
     (cases-eq b 0)

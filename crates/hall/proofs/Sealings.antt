@@ -50,26 +50,26 @@ sealable-allowed y w s kind x fits r =
     let p = model y in
     ⊎-elim
     (λ (e : kind ≡ 6).
-        let six = eq-eqb kind 6 e in
-        let body : (ltb s (p .n) && (leb 1 x && leb x (p .rounds))) ≡ true = sym (cond-true (eqb kind 6) _ _ six) ∙ r in
-        let a = and-parts (ltb s (p .n)) (leb 1 x && leb x (p .rounds)) body in
-        let b = and-parts (leb 1 x) (leb x (p .rounds)) (a .1) in
-        ap (λ k. allowed k s x) e
-        ∙ allowed-round s x (omega (arith, ltb-true s (p .n) (a .0), y .few)) (leb-true 1 x (b .0)) (omega (arith, leb-true x (p .rounds) (b .1), y .last)))
+    let six = eq-eqb kind 6 e in
+    let body : (ltb s (p .n) && (leb 1 x && leb x (p .rounds))) ≡ true = sym (cond-true (eqb kind 6) _ _ six) ∙ r in
+    let a = and-parts (ltb s (p .n)) (leb 1 x && leb x (p .rounds)) body in
+    let b = and-parts (leb 1 x) (leb x (p .rounds)) (a .1) in
+    ap (λ k. allowed k s x) e
+    ∙ allowed-round s x (omega (arith, ltb-true s (p .n) (a .0), y .few)) (leb-true 1 x (b .0)) (omega (arith, leb-true x (p .rounds) (b .1), y .last)))
     (λ (ne : kind ≡ 6 → ⊥).
-        let six = ne-eqb kind 6 ne in
-        let two-four : (eqb kind 2 || eqb kind 4) ≡ true = grind (arith, tells) in
-        let body = sym (cond-false (eqb kind 6) (ltb s (p .n) && (leb 1 x && leb x (p .rounds))) (leb 1 kind && (ltb kind 6 && ((not (eqb x 0) && known p w x) && cond (eqb kind 2 || eqb kind 4) (ltb s (p .n)) (eqb s 0)))) six) ∙ r in
-        let a = and-parts (leb 1 kind) (ltb kind 6 && ((not (eqb x 0) && known p w x) && cond (eqb kind 2 || eqb kind 4) (ltb s (p .n)) (eqb s 0))) body in
-        let b = and-parts (ltb kind 6) ((not (eqb x 0) && known p w x) && cond (eqb kind 2 || eqb kind 4) (ltb s (p .n)) (eqb s 0)) (a .1) in
-        let d = and-parts (not (eqb x 0) && known p w x) (cond (eqb kind 2 || eqb kind 4) (ltb s (p .n)) (eqb s 0)) (b .1) in
-        let f = and-parts (not (eqb x 0)) (known p w x) (d .0) in
-        let seat : s < p .n = ltb-true s (p .n) (sym (cond-true (eqb kind 2 || eqb kind 4) (ltb s (p .n)) (eqb s 0) two-four) ∙ d .1) in
-        let cap : p .rounds * p .n ≤ 8 * 13 = mul-le-mul (y .last) (y .few) in
-        let high : x ≤ 312 =
-            ⊎-elim (λ z. let q = eqb-true x 0 z in omega arith)
-              (λ z. let q = ltb-true x (numbers p) (and-parts (ltb x (numbers p)) (w .made x) z .0) in omega (arith, cap))
-              (or-cases (eqb x 0) (ltb x (numbers p) && w .made x) (f .1)) in
-        let low : 1 ≤ x = ⊎-elim (λ (z : x ≡ 0). let q = eq-eqb x 0 z in let n = not-true _ (f .0) in let bad : _≡_ {A = Bool} true false = sym q ∙ n in absurd (let u : _≡_ {A = ℕ} 0 1 = cc in omega arith)) (λ (z : x ≡ 0 → ⊥). omega arith) (cases-eq x 0) in
-        allowed-block kind s x two-four (omega (arith, y .few)) low high)
+    let six = ne-eqb kind 6 ne in
+    let two-four : (eqb kind 2 || eqb kind 4) ≡ true = grind (arith, tells) in
+    let body = sym (cond-false (eqb kind 6) (ltb s (p .n) && (leb 1 x && leb x (p .rounds))) (leb 1 kind && (ltb kind 6 && ((not (eqb x 0) && known p w x) && cond (eqb kind 2 || eqb kind 4) (ltb s (p .n)) (eqb s 0)))) six) ∙ r in
+    let a = and-parts (leb 1 kind) (ltb kind 6 && ((not (eqb x 0) && known p w x) && cond (eqb kind 2 || eqb kind 4) (ltb s (p .n)) (eqb s 0))) body in
+    let b = and-parts (ltb kind 6) ((not (eqb x 0) && known p w x) && cond (eqb kind 2 || eqb kind 4) (ltb s (p .n)) (eqb s 0)) (a .1) in
+    let d = and-parts (not (eqb x 0) && known p w x) (cond (eqb kind 2 || eqb kind 4) (ltb s (p .n)) (eqb s 0)) (b .1) in
+    let f = and-parts (not (eqb x 0)) (known p w x) (d .0) in
+    let seat : s < p .n = ltb-true s (p .n) (sym (cond-true (eqb kind 2 || eqb kind 4) (ltb s (p .n)) (eqb s 0) two-four) ∙ d .1) in
+    let cap : p .rounds * p .n ≤ 8 * 13 = mul-le-mul (y .last) (y .few) in
+    let high : x ≤ 312 =
+    ⊎-elim (λ z. let q = eqb-true x 0 z in omega arith)
+    (λ z. let q = ltb-true x (numbers p) (and-parts (ltb x (numbers p)) (w .made x) z .0) in omega (arith, cap))
+    (or-cases (eqb x 0) (ltb x (numbers p) && w .made x) (f .1)) in
+    let low : 1 ≤ x = ⊎-elim (λ (z : x ≡ 0). let q = eq-eqb x 0 z in let n = not-true _ (f .0) in let bad : _≡_ {A = Bool} true false = sym q ∙ n in absurd (let u : _≡_ {A = ℕ} 0 1 = cc in omega arith)) (λ (z : x ≡ 0 → ⊥). omega arith) (cases-eq x 0) in
+    allowed-block kind s x two-four (omega (arith, y .few)) low high)
     (cases-eq kind 6)

@@ -106,8 +106,8 @@ unknown-message p w kind signer x f ne e = stops (known p w x) refl e
         let g : f ≡ OutOfRange = cc in
         let six : eqb kind 6 ≡ false = ne-eqb kind 6 ne in
         let not-in : in-range p w kind signer x ≡ false =
-            (λ i. cond (six i) (ltb signer (p .n) && (leb 1 x && leb x (p .rounds))) (leb 1 kind && (ltb kind 6 && ((not (eqb x 0) && is i) && cond (eqb kind 2 || eqb kind 4) (ltb signer (p .n)) (eqb signer 0)))))
-            ∙ off (leb 1 kind) (ltb kind 6) (not (eqb x 0)) (cond (eqb kind 2 || eqb kind 4) (ltb signer (p .n)) (eqb signer 0)) in
+        (λ i. cond (six i) (ltb signer (p .n) && (leb 1 x && leb x (p .rounds))) (leb 1 kind && (ltb kind 6 && ((not (eqb x 0) && is i) && cond (eqb kind 2 || eqb kind 4) (ltb signer (p .n)) (eqb signer 0)))))
+        ∙ off (leb 1 kind) (ltb kind 6) (not (eqb x 0)) (cond (eqb kind 2 || eqb kind 4) (ltb signer (p .n)) (eqb signer 0)) in
         ap Err g ∙ sym (cond-false (in-range p w kind signer x) (Ok (message kind signer x)) (Err OutOfRange) not-in)
 
 -- What every call owes, from its verdict and the state after it.
@@ -154,7 +154,7 @@ module _ {B : Type 0} (held : B → ℕ → ℕ → ℕ → Bool) (h : Hall B) (
         let w = world held h in
         let stop : accepts k p w c ≡ false = sym (ap is-accepted (ran .judged)) in
         refuses h' s x (Seat f) (ran .plan-stays) (ran .judged ∙ sym past)
-          (ran .left ∙ cond-false (accepts k p w c) (seating (caller c) (seat-after p w c) (seals p w c) (with-new-block p w c)) w stop)
+        (ran .left ∙ cond-false (accepts k p w c) (seating (caller c) (seat-after p w c) (seals p w c) (with-new-block p w c)) w stop)
 
     pub rule-accepted : (h₁ h' : Hall B) (out : List Said) → Ran held k h h₁ c accepted out → h' .plan ≡ h₁ .plan
         → world held h' ≡ posting (caller c) out (world held h₁)
@@ -165,11 +165,11 @@ module _ {B : Type 0} (held : B → ℕ → ℕ → ℕ → Bool) (h : Hall B) (
         let w = world held h in
         let go : accepts k p w c ≡ true = sym (ap is-accepted (ran .judged)) in
         accepts-call h' (plan ∙ ran .plan-stays) (ran .judged ∙ sym past)
-          (posts
-          ∙ ap₂ (posting (caller c))
-            (ran .sends ∙ cond-true (accepts k p w c) (broadcast p w c) [] go)
-            (ran .left ∙ cond-true (accepts k p w c) (seating (caller c) (seat-after p w c) (seals p w c) (with-new-block p w c)) w go)
-          ∙ whole)
+        (posts
+        ∙ ap₂ (posting (caller c))
+        (ran .sends ∙ cond-true (accepts k p w c) (broadcast p w c) [] go)
+        (ran .left ∙ cond-true (accepts k p w c) (seating (caller c) (seat-after p w c) (seals p w c) (with-new-block p w c)) w go)
+        ∙ whole)
 
     -- past the hall's k checks its own rule decides
     pub decided : (h' : Hall B) (v : Verdict) → Decided held k h h' c v → Called held h h' c v

@@ -52,13 +52,13 @@ row-eq : (k x k' x' : ℕ) → subject-fits k x ≡ true → subject-fits k' x' 
 row-eq k x k' x' h h' =
     ⊎-elim
     (λ (e : row k x ≡ row k' x').
-        let p = row-apart k x k' x' h h' e in
-        eq-eqb _ _ e ∙ sym (and-from _ _ (eq-eqb k k' (p .0)) (eq-eqb x x' (p .1))))
+    let p = row-apart k x k' x' h h' e in
+    eq-eqb _ _ e ∙ sym (and-from _ _ (eq-eqb k k' (p .0)) (eq-eqb x x' (p .1))))
     (λ (ne : row k x ≡ row k' x' → ⊥).
-        ne-eqb _ _ ne ∙ sym (⊎-elim
-          (λ (kk : k ≡ k'). and-right _ _ (ne-eqb x x' (λ xx. ne (ap₂ row kk xx))))
-          (λ (kn : k ≡ k' → ⊥). and-left _ _ (ne-eqb k k' kn))
-          (cases-eq k k')))
+    ne-eqb _ _ ne ∙ sym (⊎-elim
+    (λ (kk : k ≡ k'). and-right _ _ (ne-eqb x x' (λ xx. ne (ap₂ row kk xx))))
+    (λ (kn : k ≡ k' → ⊥). and-left _ _ (ne-eqb k k' kn))
+    (cases-eq k k')))
     (cases-eq (row k x) (row k' x'))
 
 -- one row written, with one bit more
@@ -67,13 +67,13 @@ at-row : (ms : List ℕ) (r s v r' s' : ℕ) → r < length ms → bit v ≡ put
 at-row ms r s v r' s' h more =
     ⊎-elim
     (λ (e : r ≡ r').
-        let here = eq-eqb r r' e in
-        subst (λ (x : ℕ). bit (getD (set ms r v) x 0) s' ≡ cond (eqb s s') true (bit (getD ms x 0) s')) e
-          (ap (λ x. bit x s') (getD-set-same ms r v 0 h) ∙ ap (λ f. f s') more)
-        ∙ joins-here (eqb r r') (eqb s s') (bit (getD ms r' 0) s') here)
+    let here = eq-eqb r r' e in
+    subst (λ (x : ℕ). bit (getD (set ms r v) x 0) s' ≡ cond (eqb s s') true (bit (getD ms x 0) s')) e
+    (ap (λ x. bit x s') (getD-set-same ms r v 0 h) ∙ ap (λ f. f s') more)
+    ∙ joins-here (eqb r r') (eqb s s') (bit (getD ms r' 0) s') here)
     (λ (ne : r ≡ r' → ⊥).
-        ap (λ x. bit x s') (getD-set-other ms r r' v 0 (λ e. ne (sym e)))
-        ∙ joins-there (eqb r r') (eqb s s') (bit (getD ms r' 0) s') (ne-eqb r r' ne))
+    ap (λ x. bit x s') (getD-set-other ms r r' v 0 (λ e. ne (sym e)))
+    ∙ joins-there (eqb r r') (eqb s s') (bit (getD ms r' 0) s') (ne-eqb r r' ne))
     (cases-eq r r')
   where
     joins-here : (a b y : Bool) → a ≡ true → cond b true y ≡ ((a && b) || y)
@@ -100,15 +100,15 @@ row-joined ms m v long low ok more =
     let s = m .signer in
     let b = m .subject in
     let at : (x : Said) → in-rows (set ms (row k b) v) x ≡ joined m (in-rows ms) x =
-        (λ x.
-            ap (λ z. subject-fits (x .kind) (x .subject) && z) (at-row ms (row k b) s v (row (x .kind) (x .subject)) (x .signer) (omega arith) more)
-            ∙ joins (subject-fits (x .kind) (x .subject)) (eqb (row k b) (row (x .kind) (x .subject))) (eqb k (x .kind)) (eqb s (x .signer)) (eqb b (x .subject))
-              (bit (getD ms (row (x .kind) (x .subject)) 0) (x .signer))
-              (λ e.
-                  let p = and-parts (eqb k (x .kind)) (eqb s (x .signer) && eqb b (x .subject)) e in
-                  let q = and-parts (eqb s (x .signer)) (eqb b (x .subject)) (p .1) in
-                  sym (λ i. subject-fits (eqb-true k (x .kind) (p .0) i) (eqb-true b (x .subject) (q .1) i)) ∙ ok)
-              (λ fits. row-eq k b (x .kind) (x .subject) ok fits)) in
+    (λ x.
+    ap (λ z. subject-fits (x .kind) (x .subject) && z) (at-row ms (row k b) s v (row (x .kind) (x .subject)) (x .signer) (omega arith) more)
+    ∙ joins (subject-fits (x .kind) (x .subject)) (eqb (row k b) (row (x .kind) (x .subject))) (eqb k (x .kind)) (eqb s (x .signer)) (eqb b (x .subject))
+    (bit (getD ms (row (x .kind) (x .subject)) 0) (x .signer))
+    (λ e.
+    let p = and-parts (eqb k (x .kind)) (eqb s (x .signer) && eqb b (x .subject)) e in
+    let q = and-parts (eqb s (x .signer)) (eqb b (x .subject)) (p .1) in
+    sym (λ i. subject-fits (eqb-true k (x .kind) (p .0) i) (eqb-true b (x .subject) (q .1) i)) ∙ ok)
+    (λ fits. row-eq k b (x .kind) (x .subject) ok fits)) in
     λ i x. at x i
 
 pub in-row : (ms : List ℕ) (k s b : ℕ) → subject-fits k b ≡ true → bit (getD ms (row k b) 0) s ≡ in-rows ms (message k s b)
@@ -122,8 +122,8 @@ pub none-in-rows : (ms : List ℕ) → ((r : ℕ) → getD ms r 0 ≡ 0) → in-
 unfolding in-rows
 none-in-rows ms h =
     let at : (m : Said) → in-rows ms m ≡ false =
-        (λ m. and-right (subject-fits (m .kind) (m .subject)) (bit (getD ms (row (m .kind) (m .subject)) 0) (m .signer))
-          (ap (λ x. bit x (m .signer)) (h (row (m .kind) (m .subject))) ∙ bit-none (m .signer))) in
+    (λ m. and-right (subject-fits (m .kind) (m .subject)) (bit (getD ms (row (m .kind) (m .subject)) 0) (m .signer))
+    (ap (λ x. bit x (m .signer)) (h (row (m .kind) (m .subject))) ∙ bit-none (m .signer))) in
     λ i m. at m i
 
 pub getD-zeros : (n r : ℕ) → _≡_ {A = ℕ} (getD {A = ℕ} (replicate n 0) r 0) 0

@@ -21,7 +21,7 @@ module _ (p : Plan) where
   kept-on [] js w k = subst (λ l. Kept p l w) (sym (append-nil js)) k
   kept-on (call x ∷ more) js w k =
       subst (λ l. Kept p l (world-after p (after p w x) more)) (append-assoc js (record { call = x; answer = verdict p w x } ∷ []) (journal p (after p w x) more))
-        (kept-on more (js ++ record { call = x; answer = verdict p w x } ∷ []) (after p w x) (calls-on k x))
+      (kept-on more (js ++ record { call = x; answer = verdict p w x } ∷ []) (after p w x) (calls-on k x))
   kept-on (opening _ _ _ _ _ _ ∷ more) js w k = kept-on more js w k
   kept-on (card _ _ ∷ more) js w k = kept-on more js w k
   kept-on (slip _ _ ∷ more) js w k = kept-on more js w k
@@ -29,11 +29,12 @@ module _ (p : Plan) where
   kept-on (malformed ∷ more) js w k = kept-on more js w k
 
   last-recorded : (frames : List Frame) (w : World) (k : ℕ) (fs : List Refusal) (c : Counts)
-    → called p w k fs c frames ≡ recorded p (world-after p w frames) (refusals-after p w k fs frames) (counts-after p w c frames)
+      → called p w k fs c frames ≡ recorded p (world-after p w frames) (refusals-after p w k fs frames) (counts-after p w c frames)
   last-recorded [] w k fs c = refl
   last-recorded (f ∷ more) w k fs c = last-recorded more (step-world p w f) _ (step-refusals p w k fs f) (step-counts p w c f)
 
 pub runs-kept : Runs-kept
 runs-kept = record {
   complete = λ p frames. kept-on p frames [] (opening-state p) opened;
-  recorded-last = λ p w k fs c frames. last-recorded p frames w k fs c }
+  recorded-last = λ p w k fs c frames. last-recorded p frames w k fs c;
+}

@@ -15,9 +15,6 @@ use crate::entries::fill_entries;
 use crate::fault::PageFault;
 use crate::fault::refused_at;
 use crate::first::judge;
-use hall::hall::Hall;
-use seals::book::SealBook;
-use seals::book::SealView;
 use crate::ranks::slip_plan;
 use crate::run::run_calls;
 use crate::types::PageEntry;
@@ -29,9 +26,12 @@ use crate::writing::put_record;
 use basics::list::BoundedList;
 use entries::card::Card;
 use frames::decode::decode;
+use hall::hall::Hall;
 use lines::reader::Reader;
 use plans::plan::Plan;
 use records::refusal::Refusal;
+use seals::book::SealBook;
+use seals::book::SealView;
 
 /// The plan that the first lines make, or the refusal that ends the run.
 fn read_plan(sort: Sort, reader: &mut Reader) -> Result<Plan, Refusal>

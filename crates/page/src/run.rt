@@ -15,15 +15,15 @@ use crate::fault::PageFault;
 use crate::fault::PageFromHall;
 use crate::fault::call_refused_at;
 use crate::fault::refused_at;
-use hall::hall::Hall;
-use seals::book::SealBook;
-use seals::book::SealView;
 use basics::list::BoundedList;
 use frames::decode::decode;
 use frames::frame::Frame;
+use hall::hall::Hall;
 use lines::reader::Reader;
 use records::refusal::Refusal;
 use records::totals::Counts;
+use seals::book::SealBook;
+use seals::book::SealView;
 
 /// One line in the place of a call line.
 fn take_line<B: SealBook>(

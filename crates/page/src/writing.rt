@@ -14,15 +14,15 @@ ghost use lib.ListN.{length, getD, take};
 ghost use Rattle.lines.specs.Output.{over, put-all, place-after-all, text};
 ghost use Rattle.page.specs.Record.{state, seat-frames, recorded, only};
 use hall::hall::Hall;
-use seals::book::SealBook;
-use seals::book::SealView;
 use records::refusal::Refusal;
 use records::refusal::put_refusals;
 use records::seat::SeatReport;
 use records::seat::put_seat;
-use seats::seat::Phase;
 use records::totals::Counts;
 use records::totals::put_counts;
+use seals::book::SealBook;
+use seals::book::SealView;
+use seats::seat::Phase;
 
 /// The byte that says a phase.
 fn state_of(phase: Phase) -> u8

@@ -31,10 +31,10 @@ module _ (n R : ℕ) (rank : ℕ → ℕ → ℕ) (ranks : List ℕ) (few : n �
   pub rank-taken : rank-in n R ranks ≡ drawn-rank n R rank
   rank-taken =
       let at : (k s : ℕ) → rank-in n R ranks k s ≡ drawn-rank n R rank k s =
-          (λ k s. ⊎-elim
-              (λ (y : drawn n R k s ≡ true). cond-true (drawn n R k s) (getD ranks ((k - 1) * 13 + s) 0) s y ∙ read k s y ∙ sym (cond-true (drawn n R k s) (rank k s) s y))
-              (λ (x : drawn n R k s ≡ false). cond-false (drawn n R k s) (getD ranks ((k - 1) * 13 + s) 0) s x ∙ sym (cond-false (drawn n R k s) (rank k s) s x))
-              (cases-bool (drawn n R k s))) in
+      (λ k s. ⊎-elim
+      (λ (y : drawn n R k s ≡ true). cond-true (drawn n R k s) (getD ranks ((k - 1) * 13 + s) 0) s y ∙ read k s y ∙ sym (cond-true (drawn n R k s) (rank k s) s y))
+      (λ (x : drawn n R k s ≡ false). cond-false (drawn n R k s) (getD ranks ((k - 1) * 13 + s) 0) s x ∙ sym (cond-false (drawn n R k s) (rank k s) s x))
+      (cases-bool (drawn n R k s))) in
       λ t k s. at k s t
 
   inside : ℕ → Bool
@@ -62,6 +62,6 @@ module _ (n R : ℕ) (rank : ℕ → ℕ → ℕ) (ranks : List ℕ) (few : n �
     pub ranks-apart : Ranks-apart n R ranks
     ranks-apart q e = ⊎-elim
         (λ (y : inside (q .round) ≡ true). at-round (q .round) y .apart (q .one) (q .other) (q .one-low) (q .other-low)
-            (sym (as-drawn (q .round) (q .one) (q .one-low) y) ∙ e ∙ as-drawn (q .round) (q .other) (q .other-low) y))
+        (sym (as-drawn (q .round) (q .one) (q .one-low) y) ∙ e ∙ as-drawn (q .round) (q .other) (q .other-low) y))
         (λ (x : inside (q .round) ≡ false). sym (as-own (q .round) (q .one) (q .one-low) x) ∙ e ∙ as-own (q .round) (q .other) (q .other-low) x)
         (cases-bool (inside (q .round)))

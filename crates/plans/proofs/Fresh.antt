@@ -33,4 +33,4 @@ fresh-is n R rank t d e ranks rows taken =
 pub planned-is : (n R : ℕ) (rank : ℕ → ℕ → ℕ) (t d e : ℕ) → 3 * t + 1 ≤ n → d ≤ 10000 → e ≤ 10000 → Ok (fresh-plan n R rank t d e) ≡ planned n R rank t d e
 planned-is n R rank t d e many hd he =
     sym (cond-true (leb (3 * t + 1) n) (cond (leb d 10000 && leb e 10000) (Ok (fresh-plan n R rank t d e)) (Err LongDelay)) (Err TooFewSeats) (le-leb _ _ many)
-      ∙ cond-true (leb d 10000 && leb e 10000) (Ok (fresh-plan n R rank t d e)) (Err LongDelay) (and-from (leb d 10000) (leb e 10000) (le-leb _ _ hd) (le-leb _ _ he)))
+    ∙ cond-true (leb d 10000 && leb e 10000) (Ok (fresh-plan n R rank t d e)) (Err LongDelay) (and-from (leb d 10000) (leb e 10000) (le-leb _ _ hd) (le-leb _ _ he)))

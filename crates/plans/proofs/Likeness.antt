@@ -43,8 +43,8 @@ pub row-more : (m P : ℕ → Bool) (j : ℕ) → ((k : ℕ) → m k ≡ (ltb k 
 row-more m P j inv yes′ k =
     ⊎-elim
     (λ (e : j ≡ k).
-        let here : ltb k (j + 1) ≡ true = lt-ltb k (j + 1) (omega arith) in
-        ap (λ b. cond b true (m k)) (eq-eqb j k e) ∙ sym (ap₂ _&&_ here (ap P (sym e) ∙ yes′)))
+    let here : ltb k (j + 1) ≡ true = lt-ltb k (j + 1) (omega arith) in
+    ap (λ b. cond b true (m k)) (eq-eqb j k e) ∙ sym (ap₂ _&&_ here (ap P (sym e) ∙ yes′)))
     (λ (ne : j ≡ k → ⊥). ap (λ b. cond b true (m k)) (ne-eqb j k ne) ∙ inv k ∙ ap (λ b. b && P k) (past j k ne))
     (cases-eq j k)
   where
@@ -55,11 +55,11 @@ pub row-same : (m P : ℕ → Bool) (j : ℕ) → ((k : ℕ) → m k ≡ (ltb k 
 row-same m P j inv no′ k =
     ⊎-elim
     (λ (e : j ≡ k).
-        let here : ltb k j ≡ false = le-ltb k j (omega arith) in
-        let there : ltb k (j + 1) ≡ true = lt-ltb k (j + 1) (omega arith) in
-        inv k ∙ ap (λ b. b && P k) here ∙ sym (ap₂ _&&_ there (ap P (sym e) ∙ no′)))
+    let here : ltb k j ≡ false = le-ltb k j (omega arith) in
+    let there : ltb k (j + 1) ≡ true = lt-ltb k (j + 1) (omega arith) in
+    inv k ∙ ap (λ b. b && P k) here ∙ sym (ap₂ _&&_ there (ap P (sym e) ∙ no′)))
     (λ (ne : j ≡ k → ⊥). inv k ∙ ap (λ b. b && P k)
-        (⊎-elim (λ (lt : k < j). lt-ltb k j lt ∙ sym (lt-ltb k (j + 1) (omega arith))) (λ (le : j ≤ k). le-ltb k j le ∙ sym (le-ltb k (j + 1) (omega arith))) (cases-lt k j)))
+    (⊎-elim (λ (lt : k < j). lt-ltb k j lt ∙ sym (lt-ltb k (j + 1) (omega arith))) (λ (le : j ≤ k). le-ltb k j le ∙ sym (le-ltb k (j + 1) (omega arith))) (cases-lt k j)))
     (cases-eq j k)
 
 -- rows that hold the likeness of all places say it everywhere
@@ -68,15 +68,15 @@ pub rows-say : {E : Type 0} (alike : E → E → Bool) (xs : List E) (rows : Lis
     → like-in (length xs) rows ≡ places-alike alike xs
 rows-say alike xs rows h =
     let at : (i j : ℕ) → like-in (length xs) rows i j ≡ places-alike alike xs i j =
-        (λ i j. ⊎-elim
-            (λ (li : i < length xs). ⊎-elim
-                (λ (lj : j < length xs). ap₂ (λ a b. (a && b) && bit (getD rows i 0) j) (lt-ltb i (length xs) li) (lt-ltb j (length xs) lj) ∙ h i li j lj)
-                (λ (gj : length xs ≤ j). ap₂ (λ a b. (a && b) && bit (getD rows i 0) j) (lt-ltb i (length xs) li) (le-ltb j (length xs) gj)
-                    ∙ sym (ap (both-alike alike (entry-at xs i)) (entry-past xs j gj) ∙ none-second alike (entry-at xs i)))
-                (cases-lt j (length xs)))
-            (λ (gi : length xs ≤ i). ap (λ a. (a && ltb j (length xs)) && bit (getD rows i 0) j) (le-ltb i (length xs) gi)
-                ∙ sym (ap (λ o. both-alike alike o (entry-at xs j)) (entry-past xs i gi) ∙ none-first alike (entry-at xs j)))
-            (cases-lt i (length xs))) in
+    (λ i j. ⊎-elim
+    (λ (li : i < length xs). ⊎-elim
+    (λ (lj : j < length xs). ap₂ (λ a b. (a && b) && bit (getD rows i 0) j) (lt-ltb i (length xs) li) (lt-ltb j (length xs) lj) ∙ h i li j lj)
+    (λ (gj : length xs ≤ j). ap₂ (λ a b. (a && b) && bit (getD rows i 0) j) (lt-ltb i (length xs) li) (le-ltb j (length xs) gj)
+    ∙ sym (ap (both-alike alike (entry-at xs i)) (entry-past xs j gj) ∙ none-second alike (entry-at xs i)))
+    (cases-lt j (length xs)))
+    (λ (gi : length xs ≤ i). ap (λ a. (a && ltb j (length xs)) && bit (getD rows i 0) j) (le-ltb i (length xs) gi)
+    ∙ sym (ap (λ o. both-alike alike o (entry-at xs j)) (entry-past xs i gi) ∙ none-first alike (entry-at xs j)))
+    (cases-lt i (length xs))) in
     λ t i j. at i j t
 
 some-entry : {E : Type 0} (xs : List E) (i : ℕ) → i < length xs → (r : E) × (entry-at xs i ≡ Some r)

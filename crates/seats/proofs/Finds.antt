@@ -55,7 +55,7 @@ module _ (p : Model) (t : Tree) (x : Seat) (r : ℕ) where
       let has : ℕ → Bool = λ s. eqb (p .rank k s) q in
       let nobody : some-below has (p .n) ≡ false = none-found (some-below has (p .n)) (holder p k q) none in
       let out : round-of p (block-of-rank p x q v) ≡ k + 1 =
-          ap (λ s. round-of p (number p k s (min v 2))) (first-none has (p .n) nobody) ∙ number-out p k (min v 2) law (x .round .first) (omega arith) in
+      ap (λ s. round-of p (number p k s (min v 2))) (first-none has (p .n) nobody) ∙ number-out p k (min v 2) law (x .round .first) (omega arith) in
       not-better (block-of-rank p x q v) (inl (ne-eqb _ _ (λ e. omega (arith, out, e))))
 
   -- whether the j-th block of the round is better

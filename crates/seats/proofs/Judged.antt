@@ -65,11 +65,11 @@ module _ (p : Model) (t : Tree) (x : Seat) (s : ℕ) where
   unfolding valid-in best-in
   echo-judged-is b =
       ap (λ z. cond (is-in-round (stage (x .phase)))
-        (cond (eqb (round-of p b) (x .round .value))
-        (cond (not (getD (x .noted) b false) && not (bit (x .disqualified) (rank-of p b)))
-        (cond (valid-in p t (pooled x) (round-of p b) b)
-        (cond (waited (ntry-delay p (rank-of p b))) z
-        (refused 14 4 s b)) (refused 18 4 s b)) (refused 16 4 s b)) (refused 17 4 s b)) (refused 12 4 s b))
+      (cond (eqb (round-of p b) (x .round .value))
+      (cond (not (getD (x .noted) b false) && not (bit (x .disqualified) (rank-of p b)))
+      (cond (valid-in p t (pooled x) (round-of p b) b)
+      (cond (waited (ntry-delay p (rank-of p b))) z
+      (refused 14 4 s b)) (refused 18 4 s b)) (refused 16 4 s b)) (refused 17 4 s b)) (refused 12 4 s b))
       (last (first-better p (bare-desk t x) s (rank-of p b)) (some-better p (bare-desk t x) s (rank-of p b)))
 
   abbrev pub finish-judged : ℕ → Verdict

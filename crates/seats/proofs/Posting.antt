@@ -34,7 +34,7 @@ turned a b f = grind arith
 pub with-both : (xs ys : List Said) (f : Said → Bool) → with-all ys (with-all xs f) ≡ with-all (xs ++ ys) f
 with-both xs ys f =
     let at : (m : Said) → with-all ys (with-all xs f) m ≡ with-all (xs ++ ys) f m =
-        (λ m. turned (has xs m) (has ys m) (f m) ∙ ap (λ b. b || f m) (sym (has-append xs ys m))) in
+    (λ m. turned (has xs m) (has ys m) (f m) ∙ ap (λ b. b || f m) (sym (has-append xs ys m))) in
     λ i m. at m i
 
 eqb-back : (x y : ℕ) → eqb x y ≡ eqb y x
@@ -47,9 +47,9 @@ joins a kk ss bb f e = grind arith
 pub added-one : (k s b : ℕ) (f : ℕ → ℕ → ℕ → Bool) → allowed k s b ≡ true → added k s b f ≡ sealed-with (message k s b ∷ []) f
 added-one k s b f ok =
     let at : (k' s' x : ℕ) → added k s b f k' s' x ≡ sealed-with (message k s b ∷ []) f k' s' x =
-        (λ k' s' x.
-            (λ i. (allowed k s b && (eqb-back k' k i && (eqb-back s' s i && eqb-back x b i))) || f k' s' x)
-            ∙ joins (allowed k s b) (eqb k k') (eqb s s') (eqb b x) (f k' s' x) ok) in
+    (λ k' s' x.
+    (λ i. (allowed k s b && (eqb-back k' k i && (eqb-back s' s i && eqb-back x b i))) || f k' s' x)
+    ∙ joins (allowed k s b) (eqb k k') (eqb s s') (eqb b x) (f k' s' x) ok) in
     λ i k' s' x. at k' s' x i
 
 pub allowed-block : (k s b : ℕ) → (eqb k 2 || eqb k 4) ≡ true → s < 13 → 1 ≤ b → b ≤ 312 → allowed k s b ≡ true

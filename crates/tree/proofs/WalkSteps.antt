@@ -51,8 +51,8 @@ sound-step p ys xs i h =
     let x = getD xs i 0 in
     ap (sound p (ys ++ take i xs)) (drop-cons xs i 0 h)
     ∙ ap₂ (λ u l. ltb x (p .entries) && (u && sound p l (drop (suc i) xs)))
-      (unlike-append p x ys (take i xs))
-      (append-assoc ys (take i xs) (x ∷ []) ∙ ap (λ l. ys ++ l) (sym (take-suc xs i 0 h)))
+    (unlike-append p x ys (take i xs))
+    (append-assoc ys (take i xs) (x ∷ []) ∙ ap (λ l. ys ++ l) (sym (take-suc xs i 0 h)))
     ∙ ap (λ j. ltb x (p .entries) && ((unlike-all p x ys && unlike-all p x (take i xs)) && sound p (ys ++ take j xs) (drop j xs))) (sym (add-one i))
 
 pub sound-start : (p : Model) (ys xs : List ℕ) → sound p ys xs ≡ sound p (ys ++ take 0 xs) (drop 0 xs)

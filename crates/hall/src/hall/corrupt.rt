@@ -31,7 +31,14 @@ fn is_share_kind(kind: u8) -> bool
 
 impl<B: SealBook> Hall<B> {
     // whether the seat's block of this variant in the round was made, with this parent and these places
-    fn is_forged(&self, who: SeatIndex, round: Round, variant: u8, parent: BlockNumber, payload: &Payload) -> bool
+    fn is_forged(
+        &self,
+        who: SeatIndex,
+        round: Round,
+        variant: u8,
+        parent: BlockNumber,
+        payload: &Payload,
+    ) -> bool
         ensures { λ r. ⌜ r ≡ (mades (now (self .entry) .tree) (number (model (now (self .entry) .plan)) (round .value) (who .value) (min variant 2)) && (eqb (parents (now (self .entry) .tree) (number (model (now (self .entry) .plan)) (round .value) (who .value) (min variant 2))) (parent .value) && same-list (payloads (now (self .entry) .tree) (number (model (now (self .entry) .plan)) (round .value) (who .value) (min variant 2))) (listed (now (payload .entry))))) ⌝ }
     {
         let block = self.plan.number(round, who, variant);
@@ -46,7 +53,13 @@ impl<B: SealBook> Hall<B> {
     }
 
     // whether the seat has forged the same block in the round before
-    fn forged_before(&self, who: SeatIndex, round: Round, parent: BlockNumber, payload: &Payload) -> bool
+    fn forged_before(
+        &self,
+        who: SeatIndex,
+        round: Round,
+        parent: BlockNumber,
+        payload: &Payload,
+    ) -> bool
         ensures { λ r. ⌜ r ≡ forged-before (model (now (self .entry) .plan)) (world (B·SealView .held) (now (self .entry))) (who .value) (round .value) (parent .value) (listed (now (payload .entry))) ⌝ }
     {
         for variant in 0..3u8 {
@@ -85,7 +98,13 @@ impl<B: SealBook> Hall<B> {
     }
 
     // makes the block with the next variant, if the parent is of the round below, the same was not forged before, and fewer than three were
-    fn run_forge(&mut self, who: SeatIndex, round: Round, parent: BlockNumber, payload: Payload) -> Result<(), HallFault>
+    fn run_forge(
+        &mut self,
+        who: SeatIndex,
+        round: Round,
+        parent: BlockNumber,
+        payload: Payload,
+    ) -> Result<(), HallFault>
         ensures { λ r. ⌜ Decided (B·SealView .held) 3 (now (self .entry)) (now (self .exit)) (Forge (who .value) (round .value) (parent .value) (listed payload)) (answer (who .value) (parent .value) r) ⌝ }
     {
         if self.plan.round_of(parent) + 1 != round.value() {
@@ -104,7 +123,13 @@ impl<B: SealBook> Hall<B> {
     }
 
     /// A corrupt seat makes a block, sound or not.
-    pub fn forge(&mut self, seat: u8, round: u8, parent: u16, places: &[u8]) -> Result<(), HallFault>
+    pub fn forge(
+        &mut self,
+        seat: u8,
+        round: u8,
+        parent: u16,
+        places: &[u8],
+    ) -> Result<(), HallFault>
         ensures { λ r. ⌜ Called (B·SealView .held) (now (self .entry)) (now (self .exit)) (Forge seat round parent (now (places .entry))) (answer seat parent r) ⌝ }
     {
         let who = self.corrupt_seat(seat)?;

@@ -61,7 +61,12 @@ impl<B: SealBook> Hall<B> {
     }
 
     // the message of this kind, signer and subject, if there can be one
-    pub(super) fn message_of(&self, kind: u8, signer: u8, subject: u16) -> Result<Message, HallFault>
+    pub(super) fn message_of(
+        &self,
+        kind: u8,
+        signer: u8,
+        subject: u16,
+    ) -> Result<Message, HallFault>
         ensures { λ r. ⌜ message-answer r ≡ message-if (model (now (self .entry) .plan)) (world (B·SealView .held) (now (self .entry))) kind signer subject ⌝ }
     {
         if kind == 6 {
@@ -109,8 +114,10 @@ impl<B: SealBook> Hall<B> {
         match m {
             Message::Block(block) => self.tree.is_made(block),
             Message::Signed(share, signer) => self.share_exists(share, signer),
-            Message::Notarization(block) => self.sealed_count(2, block.value()) >= self.plan.quorum(),
-            Message::Finalization(block) => self.sealed_count(4, block.value()) >= self.plan.quorum(),
+            Message::Notarization(block) => self.sealed_count(2, block.value())
+                >= self.plan.quorum(),
+            Message::Finalization(block) => self.sealed_count(4, block.value())
+                >= self.plan.quorum(),
         }
     }
 

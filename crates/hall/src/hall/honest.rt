@@ -29,7 +29,8 @@ impl<B: SealBook> Hall<B> {
         ensures plan { λ _. ⌜ now (self .exit) .plan ≡ now (self .entry) .plan ⌝ }
         ensures world { λ _. ⌜ world (B·SealView .held) (now (self .exit)) ≡ posting (who .value) (listed outgoing) (world (B·SealView .held) (now (self .entry))) ⌝ }
     {
-        self.seats[who.value() as usize].post(outgoing, &mut self.broadcast);
+        self.seats[who.value() as usize]
+            .post(outgoing, &mut self.broadcast);
     }
 
     // sets the seat's clock
@@ -43,28 +44,37 @@ impl<B: SealBook> Hall<B> {
     fn run_enter(&mut self, who: SeatIndex) -> Result<Outgoing, SeatFault>
         ensures { λ r. ⌜ Ran (B·SealView .held) 2 (now (self .entry)) (now (self .exit)) (Enter (who .value)) (told (who .value) 0 r) (sent r) ⌝ }
     {
-        self.seats[who.value() as usize].enter(&self.plan, &mut self.book, who)
+        self.seats[who.value() as usize]
+            .enter(&self.plan, &mut self.book, who)
     }
 
     // the seat's rule
-    fn run_propose(&mut self, who: SeatIndex, parent: BlockNumber, payload: Payload) -> Result<Outgoing, SeatFault>
+    fn run_propose(
+        &mut self,
+        who: SeatIndex,
+        parent: BlockNumber,
+        payload: Payload,
+    ) -> Result<Outgoing, SeatFault>
         ensures { λ r. ⌜ Ran (B·SealView .held) 3 (now (self .entry)) (now (self .exit)) (Propose (who .value) (parent .value) (places-of-payload payload)) (told (who .value) (parent .value) r) (sent r) ⌝ }
     {
-        self.seats[who.value() as usize].propose(&self.plan, &mut self.tree, who, parent, payload)
+        self.seats[who.value() as usize]
+            .propose(&self.plan, &mut self.tree, who, parent, payload)
     }
 
     // the seat's rule
     fn run_echo(&mut self, who: SeatIndex, block: BlockNumber) -> Result<Outgoing, SeatFault>
         ensures { λ r. ⌜ Ran (B·SealView .held) 3 (now (self .entry)) (now (self .exit)) (Echo (who .value) (block .value)) (told (who .value) (block .value) r) (sent r) ⌝ }
     {
-        self.seats[who.value() as usize].echo(&self.plan, &self.tree, &mut self.book, who, block)
+        self.seats[who.value() as usize]
+            .echo(&self.plan, &self.tree, &mut self.book, who, block)
     }
 
     // the seat's rule
     fn run_finish(&mut self, who: SeatIndex, block: BlockNumber) -> Result<Outgoing, SeatFault>
         ensures { λ r. ⌜ Ran (B·SealView .held) 3 (now (self .entry)) (now (self .exit)) (Finish (who .value) (block .value)) (told (who .value) (block .value) r) (sent r) ⌝ }
     {
-        self.seats[who.value() as usize].finish(&self.plan, &self.tree, &mut self.book, who, block)
+        self.seats[who.value() as usize]
+            .finish(&self.plan, &self.tree, &mut self.book, who, block)
     }
 
     // the seat's rule
@@ -72,7 +82,8 @@ impl<B: SealBook> Hall<B> {
         requires { ⌜ round-of (model (now self .plan)) (block .value) ≤ 8 ⌝ }
         ensures { λ r. ⌜ Ran (B·SealView .held) 3 (now (self .entry)) (now (self .exit)) (Commit (who .value) (block .value)) (told (who .value) (block .value) r) (sent r) ⌝ }
     {
-        self.seats[who.value() as usize].commit(&self.plan, &self.tree, who, block)
+        self.seats[who.value() as usize]
+            .commit(&self.plan, &self.tree, who, block)
     }
 
     /// Sets an honest seat's clock.

@@ -45,7 +45,13 @@ impl<B: SealBook> Hall<B> {
         cleared.clear();
         let seats = [Seat::fresh(); 13];
         let count = plan.seats();
-        let mut hall = Hall { plan, tree: Tree::new(), seats, broadcast: MessageSet::empty(), book: cleared };
+        let mut hall = Hall {
+            plan,
+            tree: Tree::new(),
+            seats,
+            broadcast: MessageSet::empty(),
+            book: cleared,
+        };
         for seat in 0..count {
             hall.share_first_beacon(seat);
         }

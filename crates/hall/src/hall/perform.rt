@@ -1,14 +1,7 @@
-//! Any of the nine calls as a value, and a whole list of them.
-ghost use mathlib.Core.Path.{_≡_};
-ghost use mathlib.Core.List.{List, _++_};
-ghost use Prim.Native.Nat.{ℕ};
-ghost use Rattle.model.specs.Journal.{Line, Kept};
-ghost use Rattle.model.specs.Promises.{Promises};
+//! Any of the nine calls, as a value.
 ghost use Rattle.model.specs.Checks.{caller};
 ghost use Rattle.calls.specs.Asked.{asked, named-subject};
-ghost use Rattle.plans.specs.Planned.{model};
 ghost use Rattle.hall.specs.Faults.{answer};
-ghost use Rattle.hall.specs.Worlds.{world};
 ghost use Rattle.hall.specs.Answers.{Called};
 use super::Hall;
 use crate::fault::HallFault;
@@ -24,13 +17,31 @@ impl<B: SealBook> Hall<B> {
         match call {
             Call::Tick { seat, time } => self.tick(seat, time),
             Call::Enter { seat } => self.enter(seat),
-            Call::Propose { seat, parent, places } => self.propose(seat, parent, places),
+            Call::Propose {
+                seat,
+                parent,
+                places,
+            } => self.propose(seat, parent, places),
             Call::Echo { seat, block } => self.echo(seat, block),
             Call::Finish { seat, block } => self.finish(seat, block),
             Call::Commit { seat, block } => self.commit(seat, block),
-            Call::Deliver { seat, kind, signer, subject } => self.deliver(seat, kind, signer, subject),
-            Call::Forge { seat, round, parent, places } => self.forge(seat, round, parent, places),
-            Call::Seal { seat, kind, subject } => self.seal(seat, kind, subject),
+            Call::Deliver {
+                seat,
+                kind,
+                signer,
+                subject,
+            } => self.deliver(seat, kind, signer, subject),
+            Call::Forge {
+                seat,
+                round,
+                parent,
+                places,
+            } => self.forge(seat, round, parent, places),
+            Call::Seal {
+                seat,
+                kind,
+                subject,
+            } => self.seal(seat, kind, subject),
         }
     }
 }

@@ -171,6 +171,5 @@ impl Plan {
     /// Every plan is lawful: nothing else is needed for the law.
     pub fn is_lawful(&self)
         ensures { λ _. ⌜ Lawful (model (now (self .entry))) ⌝ }
-    {
-    }
+    {}
 }

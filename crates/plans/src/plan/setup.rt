@@ -87,7 +87,17 @@ impl Plan {
         }
         let ranks = ranks_of(draw);
         let likeness = [0u128; 128];
-        Ok(Plan { seats, most_corrupt, rounds: draw.round_count(), d, e, corrupt: 0, entries: 0, likeness, ranks })
+        Ok(Plan {
+            seats,
+            most_corrupt,
+            rounds: draw.round_count(),
+            d,
+            e,
+            corrupt: 0,
+            entries: 0,
+            likeness,
+            ranks,
+        })
     }
 
     /// Names one more seat corrupt; refused where it is none of the seats, was named before, or as many as may be are named.

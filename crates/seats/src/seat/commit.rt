@@ -38,7 +38,13 @@ fn list_chain(tree: &Tree, table: &mut [u16; 8], from: u8, to: u8, block: BlockN
 
 impl Seat {
     /// What `commit` would answer now. A block of a round past the eighth, which no plan has, is of a wrong round.
-    pub fn may_commit(&self, plan: &Plan, tree: &Tree, who: SeatIndex, block: BlockNumber) -> Result<(), SeatFault>
+    pub fn may_commit(
+        &self,
+        plan: &Plan,
+        tree: &Tree,
+        who: SeatIndex,
+        block: BlockNumber,
+    ) -> Result<(), SeatFault>
         ensures within { λ r. ⌜ (round-of (model (now (plan .entry))) (block .value) ≤ 8 → told (who .value) (block .value) r ≡ verdict-past 3 (model (now (plan .entry))) (bare-desk (now (tree .entry)) (now (self .entry))) (Commit (who .value) (block .value))) ⌝ }
         ensures beyond { λ r. ⌜ (8 < round-of (model (now (plan .entry))) (block .value) → r ≡ Err WrongRound) ⌝ }
     {
@@ -71,13 +77,23 @@ impl Seat {
 
     /// Commits a block: its chain's blocks of the rounds above the highest committed one go onto the catalogue, and its finalization is
     /// broadcast.
-    pub fn commit(&mut self, plan: &Plan, tree: &Tree, who: SeatIndex, block: BlockNumber) -> Result<Outgoing, SeatFault>
+    pub fn commit(
+        &mut self,
+        plan: &Plan,
+        tree: &Tree,
+        who: SeatIndex,
+        block: BlockNumber,
+    ) -> Result<Outgoing, SeatFault>
         ensures within { λ r. ⌜ (round-of (model (now (plan .entry))) (block .value) ≤ 8 → Rule 3 (model (now (plan .entry))) (bare-desk (now (tree .entry)) (now (self .entry))) (Commit (who .value) (block .value)) (told (who .value) (block .value) r) (sent r) (seated (now (self .exit))) (λ _ _ _. false)) ⌝ }
         ensures beyond { λ r. ⌜ (8 < round-of (model (now (plan .entry))) (block .value) → (r ≡ Err WrongRound) × (seated (now (self .exit)) ≡ seated (now (self .entry)))) ⌝ }
         ensures pool { λ _. ⌜ now (self .exit) .pool ≡ now (self .entry) .pool ⌝ }
     {
         self.may_commit(plan, tree, who, block)?;
         self.extend_catalogue(plan, tree, block);
-        Ok(Outgoing { block: None, whole: Some(Message::Finalization(block)), share: None })
+        Ok(Outgoing {
+            block: None,
+            whole: Some(Message::Finalization(block)),
+            share: None,
+        })
     }
 }

@@ -53,7 +53,13 @@ fn passed_whole(plan: &Plan, tree: &Tree, who: SeatIndex, block: BlockNumber) ->
 
 impl Seat {
     /// What `echo` would answer now.
-    pub fn may_echo(&self, plan: &Plan, tree: &Tree, who: SeatIndex, block: BlockNumber) -> Result<(), SeatFault>
+    pub fn may_echo(
+        &self,
+        plan: &Plan,
+        tree: &Tree,
+        who: SeatIndex,
+        block: BlockNumber,
+    ) -> Result<(), SeatFault>
         ensures { λ r. ⌜ told (who .value) (block .value) r ≡ verdict-past 3 (model (now (plan .entry))) (bare-desk (now (tree .entry)) (now (self .entry))) (Echo (who .value) (block .value)) ⌝ }
     {
         if !self.phase.is_in_round() {
@@ -98,7 +104,13 @@ impl Seat {
     }
 
     // the block is noted and its share sealed; or its rank is disqualified, where a block of that rank was noted
-    fn take_note<B: SealBook>(&mut self, plan: &Plan, book: &mut B, who: SeatIndex, block: BlockNumber) -> Option<Message>
+    fn take_note<B: SealBook>(
+        &mut self,
+        plan: &Plan,
+        book: &mut B,
+        who: SeatIndex,
+        block: BlockNumber,
+    ) -> Option<Message>
         requires { ⌜ 1 ≤ block .value ⌝ }
         ensures share { λ r. ⌜ maybe r ≡ cond (rank-noted (model (now (plan .entry))) (now (self .entry)) (rank-of (model (now (plan .entry))) (block .value))) [] (notarization-share (who .value) (block .value) ∷ []) ⌝ }
         ensures seat { λ _. ⌜ seated (now (self .exit)) ≡ cond (rank-noted (model (now (plan .entry))) (now (self .entry)) (rank-of (model (now (plan .entry))) (block .value))) (disqualifying (rank-of (model (now (plan .entry))) (block .value)) (seated (now (self .entry)))) (noting (block .value) (seated (now (self .entry)))) ⌝ }
@@ -116,7 +128,14 @@ impl Seat {
     }
 
     /// Echoes a block of the pool: passes it on, and notes it or disqualifies its rank.
-    pub fn echo<B: SealBook>(&mut self, plan: &Plan, tree: &Tree, book: &mut B, who: SeatIndex, block: BlockNumber) -> Result<Outgoing, SeatFault>
+    pub fn echo<B: SealBook>(
+        &mut self,
+        plan: &Plan,
+        tree: &Tree,
+        book: &mut B,
+        who: SeatIndex,
+        block: BlockNumber,
+    ) -> Result<Outgoing, SeatFault>
         ensures rule { λ r. ⌜ Rule 3 (model (now (plan .entry))) (desk (now (tree .entry)) (B·SealView .held (now (book .entry))) (now (self .entry))) (Echo (who .value) (block .value)) (told (who .value) (block .value) r) (sent r) (seated (now (self .exit))) (B·SealView .held (now (book .exit))) ⌝ }
         ensures pool { λ _. ⌜ now (self .exit) .pool ≡ now (self .entry) .pool ⌝ }
     {
@@ -124,6 +143,10 @@ impl Seat {
         let passed = passed_block(plan, who, block);
         let whole = passed_whole(plan, tree, who, block);
         let share = self.take_note(plan, book, who, block);
-        Ok(Outgoing { block: passed, whole, share })
+        Ok(Outgoing {
+            block: passed,
+            whole,
+            share,
+        })
     }
 }

@@ -66,7 +66,12 @@ impl Seat {
     }
 
     /// Enters the round that the seat waits for, and broadcasts its beacon share of the next one.
-    pub fn enter<B: SealBook>(&mut self, plan: &Plan, book: &mut B, who: SeatIndex) -> Result<Outgoing, SeatFault>
+    pub fn enter<B: SealBook>(
+        &mut self,
+        plan: &Plan,
+        book: &mut B,
+        who: SeatIndex,
+    ) -> Result<Outgoing, SeatFault>
         ensures rule { λ r. ⌜ ((t : Tree) → Rule 2 (model (now (plan .entry))) (desk t (B·SealView .held (now (book .entry))) (now (self .entry))) (Enter (who .value)) (told (who .value) 0 r) (sent r) (seated (now (self .exit))) (B·SealView .held (now (book .exit)))) ⌝ }
         ensures pool { λ _. ⌜ now (self .exit) .pool ≡ now (self .entry) .pool ⌝ }
     {
@@ -75,6 +80,10 @@ impl Seat {
         }
         let share = self.seal_beacon(plan, book, who);
         self.begin_round();
-        Ok(Outgoing { block: None, whole: None, share })
+        Ok(Outgoing {
+            block: None,
+            whole: None,
+            share,
+        })
     }
 }

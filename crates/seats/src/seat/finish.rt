@@ -28,7 +28,13 @@ use tree::tree::Tree;
 
 impl Seat {
     /// What `finish` would answer now.
-    pub fn may_finish(&self, plan: &Plan, tree: &Tree, who: SeatIndex, block: BlockNumber) -> Result<(), SeatFault>
+    pub fn may_finish(
+        &self,
+        plan: &Plan,
+        tree: &Tree,
+        who: SeatIndex,
+        block: BlockNumber,
+    ) -> Result<(), SeatFault>
         ensures { λ r. ⌜ told (who .value) (block .value) r ≡ verdict-past 3 (model (now (plan .entry))) (bare-desk (now (tree .entry)) (now (self .entry))) (Finish (who .value) (block .value)) ⌝ }
     {
         if !self.phase.is_in_round() {
@@ -47,7 +53,13 @@ impl Seat {
     }
 
     // the finalization share, sealed, if no other block is noted
-    fn seal_final<B: SealBook>(&self, plan: &Plan, book: &mut B, who: SeatIndex, block: BlockNumber) -> Option<Message>
+    fn seal_final<B: SealBook>(
+        &self,
+        plan: &Plan,
+        book: &mut B,
+        who: SeatIndex,
+        block: BlockNumber,
+    ) -> Option<Message>
         requires { ⌜ 1 ≤ block .value ⌝ }
         ensures share { λ r. ⌜ maybe r ≡ cond (other-noted (model (now (plan .entry))) (now (self .entry)) (block .value)) [] (finalization-share (who .value) (block .value) ∷ []) ⌝ }
         ensures seals { λ r. ⌜ B·SealView .held (now (book .exit)) ≡ sealed-with (maybe r) (B·SealView .held (now (book .entry))) ⌝ }
@@ -74,13 +86,24 @@ impl Seat {
     }
 
     /// Finishes the round with a notarized block: broadcasts its notarization and, if no other block is noted, the finalization share.
-    pub fn finish<B: SealBook>(&mut self, plan: &Plan, tree: &Tree, book: &mut B, who: SeatIndex, block: BlockNumber) -> Result<Outgoing, SeatFault>
+    pub fn finish<B: SealBook>(
+        &mut self,
+        plan: &Plan,
+        tree: &Tree,
+        book: &mut B,
+        who: SeatIndex,
+        block: BlockNumber,
+    ) -> Result<Outgoing, SeatFault>
         ensures rule { λ r. ⌜ Rule 3 (model (now (plan .entry))) (desk (now (tree .entry)) (B·SealView .held (now (book .entry))) (now (self .entry))) (Finish (who .value) (block .value)) (told (who .value) (block .value) r) (sent r) (seated (now (self .exit))) (B·SealView .held (now (book .exit))) ⌝ }
         ensures pool { λ _. ⌜ now (self .exit) .pool ≡ now (self .entry) .pool ⌝ }
     {
         self.may_finish(plan, tree, who, block)?;
         let share = self.seal_final(plan, book, who, block);
         self.end_round(plan);
-        Ok(Outgoing { block: None, whole: Some(Message::Notarization(block)), share })
+        Ok(Outgoing {
+            block: None,
+            whole: Some(Message::Notarization(block)),
+            share,
+        })
     }
 }

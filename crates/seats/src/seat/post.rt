@@ -27,7 +27,11 @@ impl Seat {
         ensures marks { λ _. ⌜ stored (now (marks .exit)) ≡ with-all (listed outgoing) (stored (now (marks .entry))) ⌝ }
         ensures seat { λ _. ⌜ seated (now (self .exit)) ≡ seated (now (self .entry)) ⌝ }
     {
-        let Outgoing { block, whole, share } = outgoing;
+        let Outgoing {
+            block,
+            whole,
+            share,
+        } = outgoing;
         self.post_one(marks, block);
         self.post_one(marks, whole);
         self.post_one(marks, share);

@@ -33,7 +33,14 @@ pub(super) fn notarization_of(parent: BlockNumber) -> Option<Message>
 
 impl Seat {
     /// What `propose` would answer now.
-    pub fn may_propose(&self, plan: &Plan, tree: &Tree, who: SeatIndex, parent: BlockNumber, payload: &Payload) -> Result<(), SeatFault>
+    pub fn may_propose(
+        &self,
+        plan: &Plan,
+        tree: &Tree,
+        who: SeatIndex,
+        parent: BlockNumber,
+        payload: &Payload,
+    ) -> Result<(), SeatFault>
         ensures { λ r. ⌜ told (who .value) (parent .value) r ≡ verdict-past 3 (model (now (plan .entry))) (bare-desk (now (tree .entry)) (now (self .entry))) (Propose (who .value) (parent .value) (places-of-payload (now (payload .entry)))) ⌝ }
     {
         if !self.phase.is_in_round() {
@@ -60,7 +67,14 @@ impl Seat {
     }
 
     /// Makes the seat's block of this round, and broadcasts it with its parent's notarization.
-    pub fn propose(&mut self, plan: &Plan, tree: &mut Tree, who: SeatIndex, parent: BlockNumber, payload: Payload) -> Result<Outgoing, SeatFault>
+    pub fn propose(
+        &mut self,
+        plan: &Plan,
+        tree: &mut Tree,
+        who: SeatIndex,
+        parent: BlockNumber,
+        payload: Payload,
+    ) -> Result<Outgoing, SeatFault>
         ensures rule { λ r. ⌜ Rule 3 (model (now (plan .entry))) (bare-desk (now (tree .entry)) (now (self .entry))) (Propose (who .value) (parent .value) (places-of-payload payload)) (told (who .value) (parent .value) r) (sent r) (seated (now (self .exit))) (λ _ _ _. false) ⌝ }
         ensures blocks { λ _. ⌜ Makes 3 (model (now (plan .entry))) (bare-desk (now (tree .entry)) (now (self .entry))) (Propose (who .value) (parent .value) (places-of-payload payload)) (now (tree .exit)) ⌝ }
         ensures pool { λ _. ⌜ now (self .exit) .pool ≡ now (self .entry) .pool ⌝ }
@@ -70,6 +84,10 @@ impl Seat {
         tree.make(block, parent, payload);
         self.proposed = true;
         let whole = notarization_of(parent);
-        Ok(Outgoing { block: Some(Message::Block(block)), whole, share: None })
+        Ok(Outgoing {
+            block: Some(Message::Block(block)),
+            whole,
+            share: None,
+        })
     }
 }

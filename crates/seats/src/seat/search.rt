@@ -38,7 +38,14 @@ impl Seat {
     }
 
     // the block of the seat's round with rank q and this variant, if it is better than the rank
-    fn better_block(&self, plan: &Plan, tree: &Tree, rank: Rank, q: Rank, variant: u8) -> Option<BlockNumber>
+    fn better_block(
+        &self,
+        plan: &Plan,
+        tree: &Tree,
+        rank: Rank,
+        q: Rank,
+        variant: u8,
+    ) -> Option<BlockNumber>
         ensures { λ r. ⌜ block-value r ≡ only-if (better-in (model (now (plan .entry))) (now (tree .entry)) (now (self .entry)) (rank .value) (block-of-rank (model (now (plan .entry))) (now (self .entry)) (q .value) variant)) (block-of-rank (model (now (plan .entry))) (now (self .entry)) (q .value) variant) ⌝ }
     {
         let Some(maker) = plan.holder(self.round, q) else {

@@ -58,14 +58,20 @@ impl Payload {
             return None;
         }
         let table = table_of(places);
-        Some(Payload { places: table, count: places.len() as u8 })
+        Some(Payload {
+            places: table,
+            count: places.len() as u8,
+        })
     }
 
     /// The payload with no place.
     pub fn empty() -> Payload
         ensures { λ r. ⌜ listed r ≡ [] ⌝ }
     {
-        Payload { places: [0; 4], count: 0 }
+        Payload {
+            places: [0; 4],
+            count: 0,
+        }
     }
 
     /// The places, in their order.

@@ -18,7 +18,11 @@ impl Tree {
         ensures parent { λ r. ⌜ parents r ≡ (λ (b : ℕ). 0) ⌝ }
         ensures places { λ r. ⌜ _≡_ {A = ℕ → List ℕ} (payloads r) (λ b. []) ⌝ }
     {
-        let unmade = Block { made: false, parent: BlockNumber::capped(0), payload: Payload::empty() };
+        let unmade = Block {
+            made: false,
+            parent: BlockNumber::capped(0),
+            payload: Payload::empty(),
+        };
         let blocks = [unmade; 313];
         Tree { blocks }
     }
@@ -50,7 +54,11 @@ impl Tree {
         ensures parent { λ _. ⌜ parents (now (self .exit)) ≡ put (block .value) (parent .value) (parents (now (self .entry))) ⌝ }
         ensures places { λ _. ⌜ payloads (now (self .exit)) ≡ put (block .value) (listed payload) (payloads (now (self .entry))) ⌝ }
     {
-        let new = Block { made: true, parent, payload };
+        let new = Block {
+            made: true,
+            parent,
+            payload,
+        };
         self.blocks[block.value() as usize] = new;
     }
 }

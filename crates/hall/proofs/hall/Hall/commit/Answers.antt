@@ -37,7 +37,7 @@ returns-in-Break-who g c =
     let b = c .args .block in
     let q = err-from-errBy (c .from-residual .result) (c .from-residual .ensures .1) in
     subst (λ (r : Result (Unit {0}) HallFault). Called held h h (commit s b) (answer s b r)) (sym (q .1 ∙ ap Err (q .2)))
-      (refuses held h (commit s b) h s b (c .in-Break-who .field-0 .0) refl (seat-missed p (honest p s) s b (c .in-Break-who .field-0 .0) (drop 2 (checks p w (commit s b))) (c .in-Break-who .ensures tt)) refl)
+    (refuses held h (commit s b) h s b (c .in-Break-who .field-0 .0) refl (seat-missed p (honest p s) s b (c .in-Break-who .field-0 .0) (drop 2 (checks p w (commit s b))) (c .in-Break-who .ensures tt)) refl)
 
 pub returns-in-Break-known : need.returns-in-Break-known
 returns-in-Break-known g c =
@@ -50,7 +50,7 @@ returns-in-Break-known g c =
     let seat-ok = seat-found p (honest p s) s b (c .in-Continue-who .who .value) (drop 2 (checks p w (commit s b))) (c .in-Continue-who .ensures tt) in
     let q = err-from-errBy (c .from-residual-in-Break-known .result) (c .from-residual-in-Break-known .ensures .1) in
     subst (λ (r : Result (Unit {0}) HallFault). Called held h h (commit s b) (answer s b r)) (sym (q .1 ∙ ap Err (q .2)))
-      (refuses held h (commit s b) h s b (c .in-Break-known .field-0 .0) refl (block-missed p w s b (c .in-Break-known .field-0 .0) (drop 3 (checks p w (commit s b))) (c .in-Break-known .ensures tt) ∙ sym (seat-ok .1 .1)) refl)
+    (refuses held h (commit s b) h s b (c .in-Break-known .field-0 .0) refl (block-missed p w s b (c .in-Break-known .field-0 .0) (drop 3 (checks p w (commit s b))) (c .in-Break-known .ensures tt) ∙ sym (seat-ok .1 .1)) refl)
 
 pub run-commit-requires : need.run-commit-requires
 run-commit-requires g c κs =
@@ -79,7 +79,7 @@ returns-in-Break-outgoing g c =
     let ran = subst (λ (j : ℕ). Ran held 3 h h₁ (commit s j) (told s j refusal) (sent refusal)) (block-ok .0) (subst (λ (i : ℕ). Ran held 3 h h₁ (commit i (c .in-Continue-known .known .value)) (told i (c .in-Continue-known .known .value) refusal) (sent refusal)) (seat-ok .0) (c .in-Break-outgoing .ensures tt)) in
     let q = err-from-errBy (c .from-residual-in-Break-outgoing .result) (c .from-residual-in-Break-outgoing .ensures .1) in
     subst (λ (r : Result (Unit {0}) HallFault). Called held h h₁ (commit s b) (answer s b r)) (sym (q .1 ∙ ap Err (q .2)))
-      (rule-refused held h (commit s b) 3 past h₁ s b (c .in-Break-outgoing .field-0 .0) ran)
+    (rule-refused held h (commit s b) 3 past h₁ s b (c .in-Break-outgoing .field-0 .0) ran)
 
 pub returns : need.returns
 returns g c =
@@ -96,4 +96,4 @@ returns g c =
     let done : Result Outgoing SeatFault = Ok (c .in-Continue-outgoing .outgoing) in
     let ran = subst (λ (j : ℕ). Ran held 3 h h₁ (commit s j) (told s j done) (sent done)) (block-ok .0) (subst (λ (i : ℕ). Ran held 3 h h₁ (commit i (c .in-Continue-known .known .value)) (told i (c .in-Continue-known .known .value) done) (sent done)) (seat-ok .0) (c .in-Continue-outgoing .ensures tt)) in
     rule-accepted held h (commit s b) 3 past h₁ (c .post .last .self) (listed (c .in-Continue-outgoing .outgoing)) ran (c .post .ensures .plan)
-      (c .post .ensures .world ∙ ap (λ (k : ℕ). posting k (listed (c .in-Continue-outgoing .outgoing)) (world held h₁)) (seat-ok .0)) refl
+    (c .post .ensures .world ∙ ap (λ (k : ℕ). posting k (listed (c .in-Continue-outgoing .outgoing)) (world held h₁)) (seat-ok .0)) refl

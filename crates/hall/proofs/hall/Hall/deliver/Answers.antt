@@ -48,7 +48,7 @@ returns-in-Break-who g c =
     let x = c .args .subject in
     let q = err-from-errBy (c .from-residual .result) (c .from-residual .ensures .1) in
     subst (λ (r : Result (Unit {0}) HallFault). Called held h h (deliver s kind by x) (answer s x r)) (sym (q .1 ∙ ap Err (q .2)))
-      (refuses held h (deliver s kind by x) h s x (c .in-Break-who .field-0 .0) refl (seat-missed p (honest p s) s x (c .in-Break-who .field-0 .0) (drop 2 (checks p w (deliver s kind by x))) (c .in-Break-who .ensures tt)) refl)
+    (refuses held h (deliver s kind by x) h s x (c .in-Break-who .field-0 .0) refl (seat-missed p (honest p s) s x (c .in-Break-who .field-0 .0) (drop 2 (checks p w (deliver s kind by x))) (c .in-Break-who .ensures tt)) refl)
 
 pub returns-in-Break-m : need.returns-in-Break-m
 returns-in-Break-m g c =
@@ -63,7 +63,7 @@ returns-in-Break-m g c =
     let seat-ok = seat-found p (honest p s) s x (c .in-Continue-who .who .value) (drop 2 (checks p w (deliver s kind by x))) (c .in-Continue-who .ensures tt) in
     let q = err-from-errBy (c .from-residual-in-Break-m .result) (c .from-residual-in-Break-m .ensures .1) in
     subst (λ (r : Result (Unit {0}) HallFault). Called held h h (deliver s kind by x) (answer s x r)) (sym (q .1 ∙ ap Err (q .2)))
-      (refuses held h (deliver s kind by x) h s x (c .in-Break-m .field-0 .0) refl (message-missed p w s kind by x (c .in-Break-m .field-0 .0) (drop 3 (checks p w (deliver s kind by x))) (c .in-Break-m .ensures tt) .1 ∙ sym (seat-ok .1 .1)) refl)
+    (refuses held h (deliver s kind by x) h s x (c .in-Break-m .field-0 .0) refl (message-missed p w s kind by x (c .in-Break-m .field-0 .0) (drop 3 (checks p w (deliver s kind by x))) (c .in-Break-m .ensures tt) .1 ∙ sym (seat-ok .1 .1)) refl)
 
 pub returns-then-not-exists : need.returns-then-not-exists
 returns-then-not-exists g c =
@@ -79,7 +79,7 @@ returns-then-not-exists g c =
     let message-ok = message-found p w s kind by x (means (c .in-Continue-m .m)) (drop 3 (checks p w (deliver s kind by x))) (c .in-Continue-m .ensures tt) in
     let gone : exists p w (message kind by x) ≡ false = ap (exists p w) (sym (message-ok .0)) ∙ sym (c .if-not-exists .ensures tt) in
     refuses held h (deliver s kind by x) h s x NoMessage refl
-      (sym (seat-ok .1 .1 ∙ message-ok .1 .1 ∙ ap (λ (b : Bool). cond b accepted (refused 22 3 s x)) gone)) refl
+    (sym (seat-ok .1 .1 ∙ message-ok .1 .1 ∙ ap (λ (b : Bool). cond b accepted (refused 22 3 s x)) gone)) refl
 
 pub returns : need.returns
 returns g c =
@@ -98,11 +98,11 @@ returns g c =
     let at = c .value .ensures .same ∙ seat-ok .0 in
     let long : i < length (h .seats) = search needs in
     let here : getD (h .seats) i (c .index-self-value .result) ≡ getD (h .seats) i no-seat =
-        sym (c .index-self-value .is) ∙ getD-read (h .seats) i (c .index-self-value .result) long (c .index-self-value .is) no-seat in
+    sym (c .index-self-value .is) ∙ getD-read (h .seats) i (c .index-self-value .result) long (c .index-self-value .is) no-seat in
     let x′ = c .receive .last .self in
     let ms : List Said = message kind by x ∷ [] in
     let in-pool : pooled x′ ≡ with-all ms (pooled (getD (h .seats) i no-seat)) =
-        c .receive .ensures .pool ∙ ap₂ (λ (m : Said) (y : Seat). joined m (pooled y)) (message-ok .0) here ∙ joined-one (message kind by x) (pooled (getD (h .seats) i no-seat)) in
+    c .receive .ensures .pool ∙ ap₂ (λ (m : Said) (y : Seat). joined m (pooled y)) (message-ok .0) here ∙ joined-one (message kind by x) (pooled (getD (h .seats) i no-seat)) in
     accepts-call held h (deliver s kind by x) (record { plan = h .plan; tree = h .tree; seats = set (h .seats) i x′; broadcast = h .broadcast; book = h .book }) refl
-      (sym (seat-ok .1 .1 ∙ message-ok .1 .1 ∙ ap (λ (b : Bool). cond b accepted (refused 22 3 s x)) there))
-      (arrived-at (w .made) (w .parent) (w .places) (w .sealed) (w .posted) (h .seats) i s x′ ms at long in-pool (c .receive .ensures .seat ∙ ap seated here))
+    (sym (seat-ok .1 .1 ∙ message-ok .1 .1 ∙ ap (λ (b : Bool). cond b accepted (refused 22 3 s x)) there))
+    (arrived-at (w .made) (w .parent) (w .places) (w .sealed) (w .posted) (h .seats) i s x′ ms at long in-pool (c .receive .ensures .seat ∙ ap seated here))

@@ -34,7 +34,7 @@ returns-in-Break-who g c =
     let s = c .args .seat in
     let q = err-from-errBy (c .from-residual .result) (c .from-residual .ensures .1) in
     subst (λ (r : Result (Unit {0}) HallFault). Called held h h (enter s) (answer s 0 r)) (sym (q .1 ∙ ap Err (q .2)))
-      (refuses held h (enter s) h s 0 (c .in-Break-who .field-0 .0) refl (seat-missed p (honest p s) s 0 (c .in-Break-who .field-0 .0) (drop 2 (checks p w (enter s))) (c .in-Break-who .ensures tt)) refl)
+    (refuses held h (enter s) h s 0 (c .in-Break-who .field-0 .0) refl (seat-missed p (honest p s) s 0 (c .in-Break-who .field-0 .0) (drop 2 (checks p w (enter s))) (c .in-Break-who .ensures tt)) refl)
 
 pub returns-in-Break-outgoing : need.returns-in-Break-outgoing
 returns-in-Break-outgoing g c =
@@ -50,7 +50,7 @@ returns-in-Break-outgoing g c =
     let ran = subst (λ (i : ℕ). Ran held 2 h h₁ (enter i) (told i 0 refusal) (sent refusal)) (seat-ok .0) (c .in-Break-outgoing .ensures tt) in
     let q = err-from-errBy (c .from-residual-in-Break-outgoing .result) (c .from-residual-in-Break-outgoing .ensures .1) in
     subst (λ (r : Result (Unit {0}) HallFault). Called held h h₁ (enter s) (answer s 0 r)) (sym (q .1 ∙ ap Err (q .2)))
-      (rule-refused held h (enter s) 2 past h₁ s 0 (c .in-Break-outgoing .field-0 .0) ran)
+    (rule-refused held h (enter s) 2 past h₁ s 0 (c .in-Break-outgoing .field-0 .0) ran)
 
 pub returns : need.returns
 returns g c =
@@ -65,4 +65,4 @@ returns g c =
     let done : Result Outgoing SeatFault = Ok (c .in-Continue-outgoing .outgoing) in
     let ran = subst (λ (i : ℕ). Ran held 2 h h₁ (enter i) (told i 0 done) (sent done)) (seat-ok .0) (c .in-Continue-outgoing .ensures tt) in
     rule-accepted held h (enter s) 2 past h₁ (c .post .last .self) (listed (c .in-Continue-outgoing .outgoing)) ran (c .post .ensures .plan)
-      (c .post .ensures .world ∙ ap (λ (k : ℕ). posting k (listed (c .in-Continue-outgoing .outgoing)) (world held h₁)) (seat-ok .0)) refl
+    (c .post .ensures .world ∙ ap (λ (k : ℕ). posting k (listed (c .in-Continue-outgoing .outgoing)) (world held h₁)) (seat-ok .0)) refl

@@ -52,7 +52,7 @@ returns-in-Break-who g c =
     let xs = c .args .places .now in
     let q = err-from-errBy (c .from-residual .result) (c .from-residual .ensures .1) in
     subst (λ (r : Result (Unit {0}) HallFault). Called held h h (forge s k par xs) (answer s par r)) (sym (q .1 ∙ ap Err (q .2)))
-      (refuses held h (forge s k par xs) h s par (c .in-Break-who .field-0 .0) refl (seat-missed p (not (honest p s)) s par (c .in-Break-who .field-0 .0) (drop 2 (checks p w (forge s k par xs))) (c .in-Break-who .ensures tt)) refl)
+    (refuses held h (forge s k par xs) h s par (c .in-Break-who .field-0 .0) refl (seat-missed p (not (honest p s)) s par (c .in-Break-who .field-0 .0) (drop 2 (checks p w (forge s k par xs))) (c .in-Break-who .ensures tt)) refl)
 
 pub returns-in-Break-named : need.returns-in-Break-named
 returns-in-Break-named g c =
@@ -67,7 +67,7 @@ returns-in-Break-named g c =
     let seat-ok = seat-found p (not (honest p s)) s par (c .in-Continue-who .who .value) (drop 2 (checks p w (forge s k par xs))) (c .in-Continue-who .ensures tt) in
     let q = err-from-errBy (c .from-residual-in-Break-named .result) (c .from-residual-in-Break-named .ensures .1) in
     subst (λ (r : Result (Unit {0}) HallFault). Called held h h (forge s k par xs) (answer s par r)) (sym (q .1 ∙ ap Err (q .2)))
-      (refuses held h (forge s k par xs) h s par (c .in-Break-named .field-0 .0) refl (round-missed p w s k par xs (drop 3 (checks p w (forge s k par xs))) (c .in-Break-named .field-0 .0) (c .in-Break-named .ensures tt) ∙ sym (seat-ok .1 .1)) refl)
+    (refuses held h (forge s k par xs) h s par (c .in-Break-named .field-0 .0) refl (round-missed p w s k par xs (drop 3 (checks p w (forge s k par xs))) (c .in-Break-named .field-0 .0) (c .in-Break-named .ensures tt) ∙ sym (seat-ok .1 .1)) refl)
 
 pub returns-in-Break-known : need.returns-in-Break-known
 returns-in-Break-known g c =
@@ -82,7 +82,7 @@ returns-in-Break-known g c =
     let seat-ok = seat-found p (not (honest p s)) s par (c .in-Continue-who .who .value) (drop 2 (checks p w (forge s k par xs))) (c .in-Continue-who .ensures tt) in
     let q = err-from-errBy (c .from-residual-in-Break-known .result) (c .from-residual-in-Break-known .ensures .1) in
     subst (λ (r : Result (Unit {0}) HallFault). Called held h h (forge s k par xs) (answer s par r)) (sym (q .1 ∙ ap Err (q .2)))
-      (refuses held h (forge s k par xs) h s par (c .in-Break-known .field-0 .0) refl (parent-missed p w s k par xs (drop 3 (checks p w (forge s k par xs))) (c .in-Break-known .field-0 .0) (c .in-Break-known .ensures tt) ∙ sym (seat-ok .1 .1)) refl)
+    (refuses held h (forge s k par xs) h s par (c .in-Break-known .field-0 .0) refl (parent-missed p w s k par xs (drop 3 (checks p w (forge s k par xs))) (c .in-Break-known .field-0 .0) (c .in-Break-known .ensures tt) ∙ sym (seat-ok .1 .1)) refl)
 
 pub returns-in-rest : need.returns-in-rest
 returns-in-rest g c =
@@ -115,7 +115,7 @@ returns g c =
     let h₁ = c .run-forge .last .self in
     let r = c .run-forge .result in
     let ran = subst (λ (ys : List ℕ). Decided held 3 h h₁ (forge s k par ys) (answer s par r)) (paid .0)
-        (subst (λ (j : ℕ). Decided held 3 h h₁ (forge s k j (places-of-payload (c .in-Some .payload))) (answer s j r)) (block-ok .0)
-        (subst (λ (n : ℕ). Decided held 3 h h₁ (forge s n (c .in-Continue-known .known .value) (places-of-payload (c .in-Some .payload))) (answer s (c .in-Continue-known .known .value) r)) (round-ok .0)
-        (subst (λ (i : ℕ). Decided held 3 h h₁ (forge i (c .in-Continue-named .named .value) (c .in-Continue-known .known .value) (places-of-payload (c .in-Some .payload))) (answer i (c .in-Continue-known .known .value) r)) (seat-ok .0) (c .run-forge .ensures)))) in
+    (subst (λ (j : ℕ). Decided held 3 h h₁ (forge s k j (places-of-payload (c .in-Some .payload))) (answer s j r)) (block-ok .0)
+    (subst (λ (n : ℕ). Decided held 3 h h₁ (forge s n (c .in-Continue-known .known .value) (places-of-payload (c .in-Some .payload))) (answer s (c .in-Continue-known .known .value) r)) (round-ok .0)
+    (subst (λ (i : ℕ). Decided held 3 h h₁ (forge i (c .in-Continue-named .named .value) (c .in-Continue-known .known .value) (places-of-payload (c .in-Some .payload))) (answer i (c .in-Continue-known .known .value) r)) (seat-ok .0) (c .run-forge .ensures)))) in
     decided held h (forge s k par xs) 3 past h₁ (answer s par r) ran

@@ -53,11 +53,12 @@ loop-variant-again g c =
     let v = c .loop-variant .variant in
     let at : min v 2 ≡ v = omega (arith, c .loop-variant-test .taken) in
     let block : c .number-block .result .value ≡ number (model (h .plan)) (c .args .round .value) (c .args .who .value) v =
-        c .number-block .ensures ∙ ap (number (model (h .plan)) (c .args .round .value) (c .args .who .value)) at in
+    c .number-block .ensures ∙ ap (number (model (h .plan)) (c .args .round .value) (c .args .who .value)) at in
     let step : tally f (v + 1) ≡ tally f v + cond (f v) 1 0 = ap (tally f) (add-one v) in
-    elim (c .if-is-made .came)
-    [ then-is-made w ↦ (let y : cond {A = ℕ} (f v) 1 0 ≡ 1 = ap (λ b. cond {A = ℕ} b 1 0) (ap (mades (h .tree)) (sym block) ∙ sym (w .if-is-made .ensures tt)) in omega (arith, w .count-is, step, y, c .loop-variant .inv))
-    | else-is-made w ↦ (let n : cond {A = ℕ} (f v) 1 0 ≡ 0 = ap (λ b. cond {A = ℕ} b 1 0) (ap (mades (h .tree)) (sym block) ∙ sym (w .if-is-made .ensures tt)) in omega (arith, w .count-is, step, n, c .loop-variant .inv)) ]
+    elim (c .if-is-made .came) [
+      | then-is-made w ↦ (let y : cond {A = ℕ} (f v) 1 0 ≡ 1 = ap (λ b. cond {A = ℕ} b 1 0) (ap (mades (h .tree)) (sym block) ∙ sym (w .if-is-made .ensures tt)) in omega (arith, w .count-is, step, y, c .loop-variant .inv))
+      | else-is-made w ↦ (let n : cond {A = ℕ} (f v) 1 0 ≡ 0 = ap (λ b. cond {A = ℕ} b 1 0) (ap (mades (h .tree)) (sym block) ∙ sym (w .if-is-made .ensures tt)) in omega (arith, w .count-is, step, n, c .loop-variant .inv))
+    ]
 
 pub returns : need.returns
 returns g c =

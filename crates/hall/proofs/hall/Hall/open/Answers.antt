@@ -21,21 +21,23 @@ use Rattle.hall.proofs.hall.Hall.open.Needs as need
 
 pub loop-seat-holds : need.loop-seat-holds
 loop-seat-holds g c =
-    let t = c .new .result in
-    (refl,
-     opening-none (model (c .args .plan)) (mades t) (parents t) (payloads t) (g .B·SealView .held (c .clear .last .self)) (c .fresh-seats .result) (stored (c .empty .result))
-       (c .new .ensures .made) (c .new .ensures .parent) (c .new .ensures .places) (c .clear .ensures) (c .fresh-seats .ensures .seat) (c .fresh-seats .ensures .pool) (c .empty .ensures))
+    let t = c .new .result in (
+      refl,
+      opening-none (model (c .args .plan)) (mades t) (parents t) (payloads t) (g .B·SealView .held (c .clear .last .self)) (c .fresh-seats .result) (stored (c .empty .result))
+          (c .new .ensures .made) (c .new .ensures .parent) (c .new .ensures .places) (c .clear .ensures) (c .fresh-seats .ensures .seat) (c .fresh-seats .ensures .pool) (c .empty .ensures),
+    )
 
 pub loop-seat-again : need.loop-seat-again
 loop-seat-again g c =
     let p = model (c .args .plan) in
     let i = c .loop-seat .seat in
-    let inv = c .loop-seat .inv in
-    (c .share-first-beacon .ensures .plan ∙ inv .0,
-     c .share-first-beacon .ensures .world
-     ∙ ap (λ (x : Plan). cond (honest (model x) i) (sharing i (world (g .B·SealView .held) (c .loop-seat .hall))) (world (g .B·SealView .held) (c .loop-seat .hall))) (inv .0)
-     ∙ ap (λ (w : World). cond (honest p i) (sharing i w) w) (inv .1)
-     ∙ opening-next p i)
+    let inv = c .loop-seat .inv in (
+      c .share-first-beacon .ensures .plan ∙ inv .0,
+      c .share-first-beacon .ensures .world
+          ∙ ap (λ (x : Plan). cond (honest (model x) i) (sharing i (world (g .B·SealView .held) (c .loop-seat .hall))) (world (g .B·SealView .held) (c .loop-seat .hall))) (inv .0)
+          ∙ ap (λ (w : World). cond (honest p i) (sharing i w) w) (inv .1)
+          ∙ opening-next p i,
+    )
 
 pub returns : need.returns
 returns g c =

@@ -21,6 +21,6 @@ returns g c =
     let here : getD (h .seats) i (c .index-self-value .result) ≡ getD (h .seats) i no-seat = sym (c .index-self-value .is) ∙ getD-read (h .seats) i (c .index-self-value .result) long (c .index-self-value .is) no-seat in
     let ms = listed (c .args .outgoing) in
     let at-i = posted-by (mades (h .tree)) (parents (h .tree)) (payloads (h .tree)) (g .B·SealView .held (h .book)) (stored (h .broadcast)) (h .seats)
-        i (c .post .last .self) ms (stored (c .post .last .marks)) long
-        (c .post .ensures .pool ∙ ap (λ (x : Seat). with-all ms (pooled x)) here) (c .post .ensures .seat ∙ ap seated here) (c .post .ensures .marks) in
+    i (c .post .last .self) ms (stored (c .post .last .marks)) long
+    (c .post .ensures .pool ∙ ap (λ (x : Seat). with-all ms (pooled x)) here) (c .post .ensures .seat ∙ ap seated here) (c .post .ensures .marks) in
     record { plan = refl; world = at-i ∙ ap (λ (s : ℕ). posting s ms (world (g .B·SealView .held) h)) (c .value .ensures .same) }

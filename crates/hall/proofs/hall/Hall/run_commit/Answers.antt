@@ -33,7 +33,7 @@ returns g c =
     let same = c .value .ensures .same in
     let long : i < length (h .seats) = search needs in
     let here : getD (h .seats) i (c .index-self-value .result) ≡ getD (h .seats) s no-seat =
-        sym (c .index-self-value .is) ∙ getD-read (h .seats) i (c .index-self-value .result) long (c .index-self-value .is) no-seat ∙ ap (λ (k : ℕ). getD (h .seats) k no-seat) same in
+    sym (c .index-self-value .is) ∙ getD-read (h .seats) i (c .index-self-value .result) long (c .index-self-value .is) no-seat ∙ ap (λ (k : ℕ). getD (h .seats) k no-seat) same in
     let rule = subst (λ (x : Seat). Rule 3 p (bare-desk (h .tree) x) (commit s b) (told s b out) (sent out) (seated x') (λ _ _ _. false)) here (c .commit .ensures .within (c .pre)) in
     let go = accepts 3 p w (commit s b) in
     record {
@@ -41,7 +41,7 @@ returns g c =
       judged = rule .judged;
       sends = rule .sends;
       left = ap (written (w .made) (w .parent) (w .places) (w .sealed) (w .posted) (h .seats) (w .made) (w .parent) (w .places) (w .sealed) x') same
-        ∙ settled (w .made) (w .parent) (w .places) (w .sealed) (w .posted) (h .seats) go s x' (seat-after p w (commit s b)) (seals p w (commit s b))
+          ∙ settled (w .made) (w .parent) (w .places) (w .sealed) (w .posted) (h .seats) go s x' (seat-after p w (commit s b)) (seals p w (commit s b))
           (w .made) (w .made) (w .parent) (w .parent) (w .places) (w .places) (w .sealed)
           (subst (λ (k : ℕ). k < length (h .seats)) same long) (ap stored (c .commit .ensures .pool) ∙ ap pooled here) (rule .moves) (no-seals go (w .sealed))
           (cond-same go (w .made)) (cond-same go (w .parent)) (cond-same go (w .places));

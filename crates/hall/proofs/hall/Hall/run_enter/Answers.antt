@@ -31,7 +31,7 @@ returns g c =
     let same = c .value .ensures .same in
     let long : i < length (h .seats) = search needs in
     let here : getD (h .seats) i (c .index-self-value .result) ≡ getD (h .seats) s no-seat =
-        sym (c .index-self-value .is) ∙ getD-read (h .seats) i (c .index-self-value .result) long (c .index-self-value .is) no-seat ∙ ap (λ (k : ℕ). getD (h .seats) k no-seat) same in
+    sym (c .index-self-value .is) ∙ getD-read (h .seats) i (c .index-self-value .result) long (c .index-self-value .is) no-seat ∙ ap (λ (k : ℕ). getD (h .seats) k no-seat) same in
     let rule = subst (λ (x : Seat). Rule 2 p (desk (h .tree) (held (h .book)) x) (enter s) (told s 0 out) (sent out) (seated x') (held (c .enter .last .book))) here (c .enter .ensures .rule (h .tree)) in
     let go = accepts 2 p w (enter s) in
     record {
@@ -39,7 +39,7 @@ returns g c =
       judged = rule .judged;
       sends = rule .sends;
       left = ap (written (w .made) (w .parent) (w .places) (w .sealed) (w .posted) (h .seats) (w .made) (w .parent) (w .places) (held (c .enter .last .book)) x') same
-        ∙ settled (w .made) (w .parent) (w .places) (w .sealed) (w .posted) (h .seats) go s x' (seat-after p w (enter s)) (seals p w (enter s))
+          ∙ settled (w .made) (w .parent) (w .places) (w .sealed) (w .posted) (h .seats) go s x' (seat-after p w (enter s)) (seals p w (enter s))
           (w .made) (w .made) (w .parent) (w .parent) (w .places) (w .places) (held (c .enter .last .book))
           (subst (λ (k : ℕ). k < length (h .seats)) same long) (ap stored (c .enter .ensures .pool) ∙ ap pooled here) (rule .moves) (rule .seals-given)
           (cond-same go (w .made)) (cond-same go (w .parent)) (cond-same go (w .places));

@@ -32,7 +32,7 @@ returns g c =
     let same = c .value .ensures .same in
     let long : i < length (h .seats) = search needs in
     let here : getD (h .seats) i (c .index-self-value .result) ≡ getD (h .seats) s no-seat =
-        sym (c .index-self-value .is) ∙ getD-read (h .seats) i (c .index-self-value .result) long (c .index-self-value .is) no-seat ∙ ap (λ (k : ℕ). getD (h .seats) k no-seat) same in
+    sym (c .index-self-value .is) ∙ getD-read (h .seats) i (c .index-self-value .result) long (c .index-self-value .is) no-seat ∙ ap (λ (k : ℕ). getD (h .seats) k no-seat) same in
     let rule = subst (λ (x : Seat). Rule 3 p (desk (h .tree) (held (h .book)) x) (finish s b) (told s b out) (sent out) (seated x') (held (c .finish .last .book))) here (c .finish .ensures .rule) in
     let go = accepts 3 p w (finish s b) in
     record {
@@ -40,7 +40,7 @@ returns g c =
       judged = rule .judged;
       sends = rule .sends;
       left = ap (written (w .made) (w .parent) (w .places) (w .sealed) (w .posted) (h .seats) (w .made) (w .parent) (w .places) (held (c .finish .last .book)) x') same
-        ∙ settled (w .made) (w .parent) (w .places) (w .sealed) (w .posted) (h .seats) go s x' (seat-after p w (finish s b)) (seals p w (finish s b))
+          ∙ settled (w .made) (w .parent) (w .places) (w .sealed) (w .posted) (h .seats) go s x' (seat-after p w (finish s b)) (seals p w (finish s b))
           (w .made) (w .made) (w .parent) (w .parent) (w .places) (w .places) (held (c .finish .last .book))
           (subst (λ (k : ℕ). k < length (h .seats)) same long) (ap stored (c .finish .ensures .pool) ∙ ap pooled here) (rule .moves) (rule .seals-given)
           (cond-same go (w .made)) (cond-same go (w .parent)) (cond-same go (w .places));

@@ -54,17 +54,17 @@ returns g c =
     let new : forged-before p w s k par xs ≡ false = sym (c .if-forged-before .ensures tt) in
     let few : made-in p w s k < 3 = subst (λ (n : ℕ). n < 3) (c .forged-count-variant .ensures) (c .if-variant-ge3 .left) in
     let said : accepted ≡ verdict-past 3 p w call =
-        sym ((λ i. cond (below i) (cond (not (new i)) (cond (ltb (made-in p w s k) 3) accepted (refused 15 3 s par)) (refused 16 3 s par)) (refused 17 3 s par))
-          ∙ cond-true (ltb (made-in p w s k) 3) accepted (refused 15 3 s par) (lt-ltb _ _ few)) in
+    sym ((λ i. cond (below i) (cond (not (new i)) (cond (ltb (made-in p w s k) 3) accepted (refused 15 3 s par)) (refused 16 3 s par)) (refused 17 3 s par))
+    ∙ cond-true (ltb (made-in p w s k) 3) accepted (refused 15 3 s par) (lt-ltb _ _ few)) in
     let b : c .number-block .result .value ≡ forgery p w s k =
-        let v : min (c .forged-count-variant .result) 2 ≡ made-in p w s k = omega (arith, c .forged-count-variant .ensures, c .if-variant-ge3 .left) in
-        c .number-block .ensures ∙ ap (number p k s) v in
+    let v : min (c .forged-count-variant .result) 2 ≡ made-in p w s k = omega (arith, c .forged-count-variant .ensures, c .if-variant-ge3 .left) in
+    c .number-block .ensures ∙ ap (number p k s) v in
     let m = c .make .ensures in
     record {
       plan-stays = refl;
       judged = said;
       left = (λ i. record { made = m .made i; parent = m .parent i; places = m .places i; sealed = w .sealed; pool = w .pool; posted = w .posted; seat = w .seat })
-        ∙ ap (λ (n : ℕ). with-block n par xs w) b
-        ∙ quietly s (with-block (forgery p w s k) par xs w)
-        ∙ sym (cond-true (accepts 3 p w call) (effect p w call) w (sym (ap is-accepted said)));
+          ∙ ap (λ (n : ℕ). with-block n par xs w) b
+          ∙ quietly s (with-block (forgery p w s k) par xs w)
+          ∙ sym (cond-true (accepts 3 p w call) (effect p w call) w (sym (ap is-accepted said)));
     }

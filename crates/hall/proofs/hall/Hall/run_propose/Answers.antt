@@ -35,7 +35,7 @@ returns g c =
     let same = c .value .ensures .same in
     let long : i < length (h .seats) = search needs in
     let here : getD (h .seats) i (c .index-self-value .result) ≡ getD (h .seats) s no-seat =
-        sym (c .index-self-value .is) ∙ getD-read (h .seats) i (c .index-self-value .result) long (c .index-self-value .is) no-seat ∙ ap (λ (k : ℕ). getD (h .seats) k no-seat) same in
+    sym (c .index-self-value .is) ∙ getD-read (h .seats) i (c .index-self-value .result) long (c .index-self-value .is) no-seat ∙ ap (λ (k : ℕ). getD (h .seats) k no-seat) same in
     let rule = subst (λ (x : Seat). Rule 3 p (bare-desk (h .tree) x) (propose s b xs) (told s b out) (sent out) (seated x') (λ _ _ _. false)) here (c .propose .ensures .rule) in
     let go = accepts 3 p w (propose s b xs) in
     let makes = subst (λ (x : Seat). Makes 3 p (bare-desk (h .tree) x) (propose s b xs) (c .propose .last .tree)) here (c .propose .ensures .blocks) in
@@ -45,7 +45,7 @@ returns g c =
       judged = rule .judged;
       sends = rule .sends;
       left = ap (written (w .made) (w .parent) (w .places) (w .sealed) (w .posted) (h .seats) (mades t') (parents t') (payloads t') (w .sealed) x') same
-        ∙ settled (w .made) (w .parent) (w .places) (w .sealed) (w .posted) (h .seats) go s x' (seat-after p w (propose s b xs)) (seals p w (propose s b xs))
+          ∙ settled (w .made) (w .parent) (w .places) (w .sealed) (w .posted) (h .seats) go s x' (seat-after p w (propose s b xs)) (seals p w (propose s b xs))
           (with-new-block p w (propose s b xs) .made) (mades t') (with-new-block p w (propose s b xs) .parent) (parents t') (with-new-block p w (propose s b xs) .places) (payloads t') (w .sealed)
           (subst (λ (k : ℕ). k < length (h .seats)) same long) (ap stored (c .propose .ensures .pool) ∙ ap pooled here) (rule .moves) (no-seals go (w .sealed))
           (makes .made) (makes .parent) (makes .places);

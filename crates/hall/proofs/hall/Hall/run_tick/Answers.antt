@@ -46,19 +46,19 @@ returns g c =
     let same = c .value .ensures .same in
     let long : i < length (h .seats) = search needs in
     let here : getD (h .seats) i (c .index-self-value .result) ≡ getD (h .seats) s no-seat =
-        sym (c .index-self-value .is) ∙ getD-read (h .seats) i (c .index-self-value .result) long (c .index-self-value .is) no-seat ∙ ap (λ (k : ℕ). getD (h .seats) k no-seat) same in
+    sym (c .index-self-value .is) ∙ getD-read (h .seats) i (c .index-self-value .result) long (c .index-self-value .is) no-seat ∙ ap (λ (k : ℕ). getD (h .seats) k no-seat) same in
     let ok : Seat → Bool = λ x. leb (x .clock) time && leb time 1000000000 in
     let x = getD (h .seats) s no-seat in
     let answer = c .tick .ensures .answer ∙ ap (λ (y : Seat). cond {A = Result (Unit {0}) SeatFault} (ok y) (Ok tt) (Err Clock)) here in
     let go = accepts 2 p w (tick s time) in
     let moves : seated x' ≡ cond go (at-clock time (seated x)) (seated x) =
-        c .tick .ensures .seat ∙ ap (λ (y : Seat). cond (ok y) (at-clock time (seated y)) (seated y)) here ∙ ap (λ (b : Bool). cond b (at-clock time (seated x)) (seated x)) (accepts-if (ok x) s) in
+    c .tick .ensures .seat ∙ ap (λ (y : Seat). cond (ok y) (at-clock time (seated y)) (seated y)) here ∙ ap (λ (b : Bool). cond b (at-clock time (seated x)) (seated x)) (accepts-if (ok x) s) in
     record {
       plan-stays = refl;
       judged = said (ok x) s (c .tick .result) answer;
       sends = cond-same go [];
       left = ap (written (w .made) (w .parent) (w .places) (w .sealed) (w .posted) (h .seats) (w .made) (w .parent) (w .places) (w .sealed) x') same
-        ∙ settled (w .made) (w .parent) (w .places) (w .sealed) (w .posted) (h .seats) go s x' (seat-after p w (tick s time)) (seals p w (tick s time))
+          ∙ settled (w .made) (w .parent) (w .places) (w .sealed) (w .posted) (h .seats) go s x' (seat-after p w (tick s time)) (seals p w (tick s time))
           (w .made) (w .made) (w .parent) (w .parent) (w .places) (w .places) (w .sealed)
           (subst (λ (k : ℕ). k < length (h .seats)) same long) (ap stored (c .tick .ensures .pool) ∙ ap pooled here) moves (no-seals go (w .sealed))
           (cond-same go (w .made)) (cond-same go (w .parent)) (cond-same go (w .places));

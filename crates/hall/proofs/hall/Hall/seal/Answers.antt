@@ -50,7 +50,7 @@ returns-in-Break--who g c =
     let x = c .args .subject in
     let q = err-from-errBy (c .from-residual .result) (c .from-residual .ensures .1) in
     subst (λ (r : Result (Unit {0}) HallFault). Called held h h (seal s kind x) (answer s x r)) (sym (q .1 ∙ ap Err (q .2)))
-      (refuses held h (seal s kind x) h s x (c .in-Break--who .field-0 .0) refl (seat-missed p (not (honest p s)) s x (c .in-Break--who .field-0 .0) (drop 2 (checks p w (seal s kind x))) (c .in-Break--who .ensures tt)) refl)
+    (refuses held h (seal s kind x) h s x (c .in-Break--who .field-0 .0) refl (seat-missed p (not (honest p s)) s x (c .in-Break--who .field-0 .0) (drop 2 (checks p w (seal s kind x))) (c .in-Break--who .ensures tt)) refl)
 
 pub returns-then-not-is-share-kind : need.returns-then-not-is-share-kind
 returns-then-not-is-share-kind g c =
@@ -76,7 +76,7 @@ returns-in-Break--m g c =
     let seat-ok = seat-found p (not (honest p s)) s x (c .in-Continue--who .-who .value) (drop 2 (checks p w (seal s kind x))) (c .in-Continue--who .ensures tt) in
     let q = err-from-errBy (c .from-residual-in-Break--m .result) (c .from-residual-in-Break--m .ensures .1) in
     subst (λ (r : Result (Unit {0}) HallFault). Called held h h (seal s kind x) (answer s x r)) (sym (q .1 ∙ ap Err (q .2)))
-      (refuses held h (seal s kind x) h s x (c .in-Break--m .field-0 .0) refl (no-such p w s kind x (drop 3 (checks p w (seal s kind x))) (c .in-Break--m .field-0 .0) (c .in-Break--m .ensures tt) ∙ sym (seat-ok .1 .1)) refl)
+    (refuses held h (seal s kind x) h s x (c .in-Break--m .field-0 .0) refl (no-such p w s kind x (drop 3 (checks p w (seal s kind x))) (c .in-Break--m .field-0 .0) (c .in-Break--m .ensures tt) ∙ sym (seat-ok .1 .1)) refl)
 
 pub returns-then-asked : need.returns-then-asked
 returns-then-asked g c =
@@ -92,7 +92,7 @@ returns-then-asked g c =
     let fit : (eqb kind 2 || (eqb kind 4 || eqb kind 6)) ≡ true = sym (c .if-not-is-share-kind .ensures tt) in
     let there : w .sealed kind s x ≡ true = sym (c .if-asked .ensures tt) in
     refuses held h (seal s kind x) h s x Repeated refl
-      (sym (seat-ok .1 .1 ∙ sealable p w s kind x (drop 3 (checks p w (seal s kind x))) fit (message-ok .1 .0) ∙ ap (λ (b : Bool). cond (not b) accepted (refused 16 3 s x)) there)) refl
+    (sym (seat-ok .1 .1 ∙ sealable p w s kind x (drop 3 (checks p w (seal s kind x))) fit (message-ok .1 .0) ∙ ap (λ (b : Bool). cond (not b) accepted (refused 16 3 s x)) there)) refl
 
 pub returns : need.returns
 returns g c =
@@ -109,6 +109,6 @@ returns g c =
     let gone : w .sealed kind s x ≡ false = sym (c .if-asked .ensures tt) in
     let more = c .seal .ensures .after ∙ added-one kind s x (w .sealed) (sealable-allowed (h .plan) w s kind x fit (message-ok .1 .0)) in
     accepts-call held h (seal s kind x) (record { plan = h .plan; tree = h .tree; seats = h .seats; broadcast = h .broadcast; book = c .seal .last .self }) refl
-      (sym (seat-ok .1 .1 ∙ sealable p w s kind x (drop 3 (checks p w (seal s kind x))) fit (message-ok .1 .0) ∙ ap (λ (b : Bool). cond (not b) accepted (refused 16 3 s x)) gone))
-      ((λ i. record { made = w .made; parent = w .parent; places = w .places; sealed = more i; pool = w .pool; posted = w .posted; seat = w .seat })
-       ∙ quietly s (record { made = w .made; parent = w .parent; places = w .places; sealed = sealed-with (message kind s x ∷ []) (w .sealed); pool = w .pool; posted = w .posted; seat = w .seat }))
+    (sym (seat-ok .1 .1 ∙ sealable p w s kind x (drop 3 (checks p w (seal s kind x))) fit (message-ok .1 .0) ∙ ap (λ (b : Bool). cond (not b) accepted (refused 16 3 s x)) gone))
+    ((λ i. record { made = w .made; parent = w .parent; places = w .places; sealed = more i; pool = w .pool; posted = w .posted; seat = w .seat })
+    ∙ quietly s (record { made = w .made; parent = w .parent; places = w .places; sealed = sealed-with (message kind s x ∷ []) (w .sealed); pool = w .pool; posted = w .posted; seat = w .seat }))

@@ -18,6 +18,7 @@ loop-seat-again g c =
     let f : ℕ → Bool = λ s. g .B·SealView .held (c .args .self .now .book) (c .args .kind) s (c .args .subject) in
     let i = c .loop-seat .seat in
     let step : tally f (i + 1) ≡ tally f i + cond (f i) 1 0 = ap (tally f) (add-one i) in
-    elim (c .if-asked .came)
-    [ then-asked w ↦ (let y : cond {A = ℕ} (f i) 1 0 ≡ 1 = ap (λ b. cond {A = ℕ} b 1 0) (sym (w .if-asked .ensures tt)) in omega (arith, w .count-is, step, y, c .loop-seat .inv))
-    | else-asked w ↦ (let n : cond {A = ℕ} (f i) 1 0 ≡ 0 = ap (λ b. cond {A = ℕ} b 1 0) (sym (w .if-asked .ensures tt)) in omega (arith, w .count-is, step, n, c .loop-seat .inv)) ]
+    elim (c .if-asked .came) [
+      | then-asked w ↦ (let y : cond {A = ℕ} (f i) 1 0 ≡ 1 = ap (λ b. cond {A = ℕ} b 1 0) (sym (w .if-asked .ensures tt)) in omega (arith, w .count-is, step, y, c .loop-seat .inv))
+      | else-asked w ↦ (let n : cond {A = ℕ} (f i) 1 0 ≡ 0 = ap (λ b. cond {A = ℕ} b 1 0) (sym (w .if-asked .ensures tt)) in omega (arith, w .count-is, step, n, c .loop-seat .inv))
+    ]

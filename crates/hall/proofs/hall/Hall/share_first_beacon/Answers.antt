@@ -34,18 +34,18 @@ returns g c =
     let is : m ≡ beacon-share s 1 = ap₂ (message 6) who one in
     let long : s < length (h .seats) = search needs in
     let here : getD (h .seats) s (c .index-self-seat .result) ≡ getD (h .seats) s no-seat =
-        sym (c .index-self-seat .is) ∙ getD-read (h .seats) s (c .index-self-seat .result) long (c .index-self-seat .is) no-seat in
+    sym (c .index-self-seat .is) ∙ getD-read (h .seats) s (c .index-self-seat .result) long (c .index-self-seat .is) no-seat in
     let good : honest p s ≡ true = ap (honest p) (sym who) ∙ sym (c .if-not-is-honest .ensures tt) in
     let ms : List Said = beacon-share s 1 ∷ [] in
     let in-pool : pooled (c .receive .last .self) ≡ with-all ms (pooled (getD (h .seats) s no-seat)) =
-        c .receive .ensures .pool ∙ ap₂ (λ (x : Said) (y : Seat). joined x (pooled y)) is here ∙ joined-one (beacon-share s 1) (pooled (getD (h .seats) s no-seat)) in
+    c .receive .ensures .pool ∙ ap₂ (λ (x : Said) (y : Seat). joined x (pooled y)) is here ∙ joined-one (beacon-share s 1) (pooled (getD (h .seats) s no-seat)) in
     let marked : stored (c .insert .last .self) ≡ with-all ms (stored (h .broadcast)) =
-        c .insert .ensures ∙ ap (λ (x : Said). joined x (stored (h .broadcast))) is ∙ joined-one (beacon-share s 1) (stored (h .broadcast)) in
+    c .insert .ensures ∙ ap (λ (x : Said). joined x (stored (h .broadcast))) is ∙ joined-one (beacon-share s 1) (stored (h .broadcast)) in
     let sealed = c .seal .ensures .after ∙ added-one 6 s 1 (held (h .book)) (allowed-round s 1 (c .pre) (omega arith) (omega arith)) in
     record {
       plan = refl;
       world = posted-by (w .made) (w .parent) (w .places) (held (c .seal .last .self)) (w .posted) (h .seats) s (c .receive .last .self) ms (stored (c .insert .last .self)) long
           in-pool (c .receive .ensures .seat ∙ ap seated here) marked
-        ∙ (λ i. posting s ms (record { made = w .made; parent = w .parent; places = w .places; sealed = sealed i; pool = w .pool; posted = w .posted; seat = w .seat }))
-        ∙ sym (cond-true (honest p s) (sharing s w) w good);
+          ∙ (λ i. posting s ms (record { made = w .made; parent = w .parent; places = w .places; sealed = sealed i; pool = w .pool; posted = w .posted; seat = w .seat }))
+          ∙ sym (cond-true (honest p s) (sharing s w) w good);
     }

@@ -16,6 +16,7 @@ returns g c =
     let s = c .args .seat in
     let low : s < h .plan .seats = omega (arith, c .seats .ensures .is, c .if-seat-seats .left) in
     let index : c .capped-index .result .value ≡ s = omega (arith, c .capped-index .ensures, h .plan .few) in
-    let good : honest (model (h .plan)) s ≡ true = ap (honest (model (h .plan))) (sym index) ∙ sym (c .if-not-is-honest .ensures tt) in
-    (and-from (ltb s (h .plan .seats)) (honest (model (h .plan)) s) (lt-ltb _ _ low) good,
-     subst (λ (k : ℕ). Stands (c .standing-in .result) (world (g .B·SealView .held) h .seat k)) index (c .standing-in .ensures))
+    let good : honest (model (h .plan)) s ≡ true = ap (honest (model (h .plan))) (sym index) ∙ sym (c .if-not-is-honest .ensures tt) in (
+      and-from (ltb s (h .plan .seats)) (honest (model (h .plan)) s) (lt-ltb _ _ low) good,
+      subst (λ (k : ℕ). Stands (c .standing-in .result) (world (g .B·SealView .held) h .seat k)) index (c .standing-in .ensures),
+    )

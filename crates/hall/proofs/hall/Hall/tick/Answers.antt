@@ -34,7 +34,7 @@ returns-in-Break-who g c =
     let time = c .args .time in
     let q = err-from-errBy (c .from-residual .result) (c .from-residual .ensures .1) in
     subst (λ (r : Result (Unit {0}) HallFault). Called held h h (tick s time) (answer s 0 r)) (sym (q .1 ∙ ap Err (q .2)))
-      (refuses held h (tick s time) h s 0 (c .in-Break-who .field-0 .0) refl (seat-missed p (honest p s) s 0 (c .in-Break-who .field-0 .0) (drop 2 (checks p w (tick s time))) (c .in-Break-who .ensures tt)) refl)
+    (refuses held h (tick s time) h s 0 (c .in-Break-who .field-0 .0) refl (seat-missed p (honest p s) s 0 (c .in-Break-who .field-0 .0) (drop 2 (checks p w (tick s time))) (c .in-Break-who .ensures tt)) refl)
 
 pub returns-in-Break-run-tick : need.returns-in-Break-run-tick
 returns-in-Break-run-tick g c =
@@ -51,7 +51,7 @@ returns-in-Break-run-tick g c =
     let ran = subst (λ (i : ℕ). Ran held 2 h h₁ (tick i time) (told i 0 refusal) []) (seat-ok .0) (c .in-Break-run-tick .ensures tt) in
     let q = err-from-errBy (c .from-residual-in-Break-run-tick .result) (c .from-residual-in-Break-run-tick .ensures .1) in
     subst (λ (r : Result (Unit {0}) HallFault). Called held h h₁ (tick s time) (answer s 0 r)) (sym (q .1 ∙ ap Err (q .2)))
-      (rule-refused held h (tick s time) 2 past h₁ s 0 (c .in-Break-run-tick .field-0 .0) ran)
+    (rule-refused held h (tick s time) 2 past h₁ s 0 (c .in-Break-run-tick .field-0 .0) ran)
 
 pub returns : need.returns
 returns g c =

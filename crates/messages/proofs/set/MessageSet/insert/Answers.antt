@@ -24,6 +24,6 @@ returns c =
     let low : row (m .kind) (m .subject) < 1574 = subst (λ (x : ℕ). x < 1574) at (c .message-row-at .ensures .low) in
     let small : c .message-bit .result < 16 = omega (arith, c .message-bit .ensures .low) in
     let more : bit (c .with .result) ≡ put (m .signer) true (bit (getD ms (row (m .kind) (m .subject)) 0)) =
-        c .with .ensures ∙ put-inside 16 (c .message-bit .result) true (bit old) small
-        ∙ ap₂ (λ x y. put y true (bit (getD ms x 0))) at by in
+    c .with .ensures ∙ put-inside 16 (c .message-bit .result) true (bit old) small
+    ∙ ap₂ (λ x y. put y true (bit (getD ms x 0))) at by in
     ap (λ x. in-rows (set ms x (c .with .result))) at ∙ row-joined ms m (c .with .result) long low (message-fits (c .args .m)) more

@@ -20,7 +20,7 @@ loop-s-again c =
     let at : c .capped-seat .result .value ≡ c .loop-s .s = omega (arith, c .capped-seat .ensures, c .args .self .now .few) in
     let rank : c .value .result ≡ p .rank k (c .loop-s .s) = c .value .ensures .same ∙ c .rank .ensures ∙ ap (p .rank k) at in
     none-more has (c .loop-s .s) (c .loop-s .inv)
-      (ne-eqb _ _ (λ e. c .if-value .left (rank ∙ e ∙ sym (c .value-in-loop-s .ensures .same))))
+    (ne-eqb _ _ (λ e. c .if-value .left (rank ∙ e ∙ sym (c .value-in-loop-s .ensures .same))))
 
 pub returns-then-value : need.returns-then-value
 returns-then-value c =

@@ -21,12 +21,40 @@ ghost-result g c =
     let in-bounds = g .D·Draw .within dr in
     let ranks = c .ranks-of-ranks .result in
     let low = ranks-below n R rank ranks (in-bounds .few-seats) (in-bounds .few-rounds) (c .ranks-of-ranks .ensures) (g .D·Draw .once dr) in
-    let apart = ranks-apart n R rank ranks (in-bounds .few-seats) (in-bounds .few-rounds) (c .ranks-of-ranks .ensures) (g .D·Draw .once dr) in
-    (omega (arith, in-bounds .some-seat, en), (omega (arith, in-bounds .few-seats, en), (omega (arith, in-bounds .some-round, eR), (omega (arith, in-bounds .few-rounds, eR),
-    (omega arith, (none-corrupt _ _, (c .if-d-gt10000 .left, (c .if-e-gt10000 .left, (omega arith,
-    (subst (λ (m : ℕ). Ranks-below m (c .round-count .result) ranks) en (subst (λ (k : ℕ). Ranks-below n k ranks) eR low),
-    (subst (λ (m : ℕ). Ranks-apart m (c .round-count .result) ranks) en (subst (λ (k : ℕ). Ranks-apart n k ranks) eR apart),
-    ((λ q. absurd (omega (arith, q .one-low))), ((λ q e. absurd (omega (arith, q .one-low))), tt)))))))))))))
+    let apart = ranks-apart n R rank ranks (in-bounds .few-seats) (in-bounds .few-rounds) (c .ranks-of-ranks .ensures) (g .D·Draw .once dr) in (
+      omega (arith, in-bounds .some-seat, en),
+      (
+        omega (arith, in-bounds .few-seats, en),
+        (
+          omega (arith, in-bounds .some-round, eR),
+          (
+            omega (arith, in-bounds .few-rounds, eR),
+            (
+              omega arith,
+              (
+                none-corrupt _ _,
+                (
+                  c .if-d-gt10000 .left,
+                  (
+                    c .if-e-gt10000 .left,
+                    (
+                      omega arith,
+                      (
+                        subst (λ (m : ℕ). Ranks-below m (c .round-count .result) ranks) en (subst (λ (k : ℕ). Ranks-below n k ranks) eR low),
+                        (
+                          subst (λ (m : ℕ). Ranks-apart m (c .round-count .result) ranks) en (subst (λ (k : ℕ). Ranks-apart n k ranks) eR apart),
+                          ((λ q. absurd (omega (arith, q .one-low))), ((λ q e. absurd (omega (arith, q .one-low))), tt)),
+                        ),
+                      ),
+                    ),
+                  ),
+                ),
+              ),
+            ),
+          ),
+        ),
+      ),
+    )
 
 pub returns : need.returns
 returns g c =
@@ -40,7 +68,7 @@ returns g c =
     let ranks = c .ranks-of-ranks .result in
     let taken = rank-taken n R rank ranks (in-bounds .few-seats) (in-bounds .few-rounds) (c .ranks-of-ranks .ensures) in
     let here : rank-in (c .seat-count-seats .result) (c .round-count .result) ranks ≡ drawn-rank (c .seat-count-seats .result) (c .round-count .result) rank =
-        (λ i. rank-in (en i) (eR i) ranks) ∙ taken ∙ sym (λ i. drawn-rank (en i) (eR i) rank) in
+    (λ i. rank-in (en i) (eR i) ranks) ∙ taken ∙ sym (λ i. drawn-rank (en i) (eR i) rank) in
     ap Ok (fresh-is (c .seat-count-seats .result) (c .round-count .result) rank (c .args .most-corrupt) (c .args .d) (c .args .e) ranks (replicate {A = ℕ} 128 0) here)
     ∙ planned-is (c .seat-count-seats .result) (c .round-count .result) rank (c .args .most-corrupt) (c .args .d) (c .args .e) (omega arith) (c .if-d-gt10000 .left) (c .if-e-gt10000 .left)
     ∙ (λ i. planned (en i) (eR i) rank (c .args .most-corrupt) (c .args .d) (c .args .e))

@@ -14,13 +14,14 @@ loop-i-again g c =
     let i = c .loop-i .i in
     let rows = c .loop-i .likeness in
     let row = c .likeness-row .result in
-    let low : i < length rows = omega (arith, inv .0, c .pre, c .loop-i-test .taken) in
-    (length-set rows i row ∙ inv .0,
-     below-more _ _
-       (λ k h j hj. ap (λ (m : ℕ). bit m j) (getD-set-other rows i k row 0 (λ e. omega arith)) ∙ inv .1 k h j hj)
-       (λ j hj. ap (λ (m : ℕ). bit m j) (getD-set-same rows i row 0 low) ∙ c .likeness-row .ensures j hj))
+    let low : i < length rows = omega (arith, inv .0, c .pre, c .loop-i-test .taken) in (
+      length-set rows i row ∙ inv .0,
+      below-more _ _
+          (λ k h j hj. ap (λ (m : ℕ). bit m j) (getD-set-other rows i k row 0 (λ e. omega arith)) ∙ inv .1 k h j hj)
+          (λ j hj. ap (λ (m : ℕ). bit m j) (getD-set-same rows i row 0 low) ∙ c .likeness-row .ensures j hj),
+    )
 
 pub returns : need.returns
 returns g c =
     rows-say (g .E·Entry .alike) (c .args .entries .now) (c .loop-i .likeness)
-      (λ i h j hj. c .loop-i .inv .1 i (omega (arith, c .loop-i-test .left)) j hj)
+    (λ i h j hj. c .loop-i .inv .1 i (omega (arith, c .loop-i-test .left)) j hj)

@@ -21,17 +21,18 @@ loop-j-again g c k =
     let j = c .loop-j .j in
     let P : ℕ → Bool = places-alike (g .E·Entry .alike) xs i in
     let here : P j ≡ c .is-like .result =
-        alike-there (g .E·Entry .alike) xs i j (c .index-entries-i .result) (c .index-entries-j .result) (c .pre .0) (c .loop-j-test .taken) (c .index-entries-i .is) (c .index-entries-j .is)
-        ∙ sym (c .is-like .ensures) in
+    alike-there (g .E·Entry .alike) xs i j (c .index-entries-i .result) (c .index-entries-j .result) (c .pre .0) (c .loop-j-test .taken) (c .index-entries-i .is) (c .index-entries-j .is)
+    ∙ sym (c .is-like .ensures) in
     let low : j < 128 = omega (arith, c .pre .1, c .loop-j-test .taken) in
-    elim (c .if-is-like .came)
-    [ then-is-like w ↦
-        ap (λ (m : ℕ). bit m k) (w .likes-is)
-        ∙ ap (λ f. f k) (w .with-likes .ensures ∙ put-inside 128 j true (bit (c .loop-j .likes)) low)
-        ∙ row-more (bit (c .loop-j .likes)) P j (c .loop-j .inv) (here ∙ w .if-is-like .taken) k
-    | else-is-like w ↦
-        ap (λ (m : ℕ). bit m k) (w .likes-is)
-        ∙ row-same (bit (c .loop-j .likes)) P j (c .loop-j .inv) (here ∙ w .if-is-like .left) k ]
+    elim (c .if-is-like .came) [
+      | then-is-like w ↦
+          ap (λ (m : ℕ). bit m k) (w .likes-is)
+          ∙ ap (λ f. f k) (w .with-likes .ensures ∙ put-inside 128 j true (bit (c .loop-j .likes)) low)
+          ∙ row-more (bit (c .loop-j .likes)) P j (c .loop-j .inv) (here ∙ w .if-is-like .taken) k
+      | else-is-like w ↦
+          ap (λ (m : ℕ). bit m k) (w .likes-is)
+          ∙ row-same (bit (c .loop-j .likes)) P j (c .loop-j .inv) (here ∙ w .if-is-like .left) k
+    ]
 
 pub returns : need.returns
 returns g c k h =

@@ -22,7 +22,7 @@ loop-v-again c =
     let e : 3 * q + v + 1 ≡ 3 * q + (v + 1) = omega arith in
     let at : c .capped .result .value ≡ q = omega (arith, c .capped .ensures, c .value-q-end .ensures .low, c .loop-q-test .taken) in
     let not-here : better-in p t x r (block-of-rank p x q v) ≡ false =
-        ap (λ (k : ℕ). better-in p t x r (block-of-rank p x k v)) (sym at) ∙ none-found _ _ (c .in-rest .ensures tt) in
+    ap (λ (k : ℕ). better-in p t x r (block-of-rank p x k v)) (sym at) ∙ none-found _ _ (c .in-rest .ensures tt) in
     ap (some-below (better-nth p t x r)) (sym e)
     ∙ none-more (better-nth p t x r) (3 * q + v) (c .loop-v .inv) (ap (better-in p t x r) (nth p t x r q v (c .loop-v-test .taken)) ∙ not-here)
 
@@ -47,4 +47,4 @@ returns-after-loop-q c =
     let p = model (c .args .plan .now) in
     let e : 3 * c .loop-q .q ≡ 3 * c .args .rank .value = omega (arith, c .value-q-end .ensures .same) in
     best-none p (c .args .tree .now) (c .args .self .now) (c .args .rank .value)
-      (ap (some-below (better-nth p (c .args .tree .now) (c .args .self .now) (c .args .rank .value))) (sym e) ∙ c .loop-q .inv)
+    (ap (some-below (better-nth p (c .args .tree .now) (c .args .self .now) (c .args .rank .value))) (sym e) ∙ c .loop-q .inv)

@@ -10,4 +10,4 @@ pub returns-in-rest : need.returns-in-rest
 returns-in-rest c =
     let p = model (c .args .plan .now) in
     sym (ap (λ b. only-if b (block-of-rank p (c .args .self .now) (c .args .q .value) (c .args .variant)))
-      (none-holds p (c .args .tree .now) (c .args .self .now) (c .args .rank .value) (plan-is-lawful (c .args .plan .now)) (c .args .q .value) (c .args .variant) (c .in-rest .ensures tt)))
+    (none-holds p (c .args .tree .now) (c .args .self .now) (c .args .rank .value) (plan-is-lawful (c .args .plan .now)) (c .args .q .value) (c .args .variant) (c .in-rest .ensures tt)))

@@ -38,8 +38,8 @@ returns g c =
     let share : List Said = cond (rank-noted p x (rank-of p b)) [] (notarization-share s b ∷ []) in
     record {
       rule = rule-accepts 3 p (desk t held x) (echo s b) (c .in-Continue-may-echo .ensures tt)
-        ((λ i. c .passed-block-passed .ensures i ++ (c .passed-whole-whole .ensures i ++ n .share i))
+          ((λ i. c .passed-block-passed .ensures i ++ (c .passed-whole-whole .ensures i ++ n .share i))
           ∙ parts (eqb (maker-of p b) s) (block b) (parent-notarization (parents t b)) share)
-        (n .seat) (n .seals ∙ ap (λ (l : List Said). sealed-with l held) (n .share));
+          (n .seat) (n .seals ∙ ap (λ (l : List Said). sealed-with l held) (n .share));
       pool = n .pool;
     }

@@ -24,6 +24,6 @@ returns g c =
     let sh = c .seal-beacon-share .ensures in
     record {
       rule = λ t. rule-accepts 2 (model (c .args .plan .now)) (desk t held (c .args .self .now)) (enter (c .args .who .value)) (c .in-rest .ensures tt t)
-        (sh .share) (c .begin-round .ensures .seat) (sh .seals ∙ ap (λ (l : List Said). sealed-with l held) (sh .share));
+          (sh .share) (c .begin-round .ensures .seat) (sh .seals ∙ ap (λ (l : List Said). sealed-with l held) (sh .share));
       pool = c .begin-round .ensures .pool;
     }

@@ -23,6 +23,6 @@ returns g c =
     let b = c .args .block .value in
     record {
       rule = rule-accepts 3 (model (c .args .plan .now)) (desk (c .args .tree .now) held (c .args .self .now)) (finish (c .args .who .value) b) (c .in-Continue-may-finish .ensures tt)
-        (ap (λ (l : List Said). notarization b ∷ l) (sh .share)) (c .end-round .ensures .seat) (sh .seals ∙ ap (λ (l : List Said). sealed-with l held) (sh .share));
+          (ap (λ (l : List Said). notarization b ∷ l) (sh .share)) (c .end-round .ensures .seat) (sh .seals ∙ ap (λ (l : List Said). sealed-with l held) (sh .share));
       pool = c .end-round .ensures .pool;
     }

@@ -13,8 +13,8 @@ returns c =
     let g = stored (c .args .marks .now) in
     record {
       pool = c .post-one-3 .ensures .pool ∙ ap (with-all (maybe (x .share))) (c .post-one-2 .ensures .pool ∙ ap (with-all (maybe (x .whole))) (c .post-one .ensures .pool) ∙ with-both (maybe (x .block)) (maybe (x .whole)) f)
-        ∙ with-both (maybe (x .block) ++ maybe (x .whole)) (maybe (x .share)) f ∙ ap (λ l. with-all l f) (append-assoc (maybe (x .block)) (maybe (x .whole)) (maybe (x .share)));
+          ∙ with-both (maybe (x .block) ++ maybe (x .whole)) (maybe (x .share)) f ∙ ap (λ l. with-all l f) (append-assoc (maybe (x .block)) (maybe (x .whole)) (maybe (x .share)));
       marks = c .post-one-3 .ensures .marks ∙ ap (with-all (maybe (x .share))) (c .post-one-2 .ensures .marks ∙ ap (with-all (maybe (x .whole))) (c .post-one .ensures .marks) ∙ with-both (maybe (x .block)) (maybe (x .whole)) g)
-        ∙ with-both (maybe (x .block) ++ maybe (x .whole)) (maybe (x .share)) g ∙ ap (λ l. with-all l g) (append-assoc (maybe (x .block)) (maybe (x .whole)) (maybe (x .share)));
+          ∙ with-both (maybe (x .block) ++ maybe (x .whole)) (maybe (x .share)) g ∙ ap (λ l. with-all l g) (append-assoc (maybe (x .block)) (maybe (x .whole)) (maybe (x .share)));
       seat = c .post-one-3 .ensures .seat ∙ c .post-one-2 .ensures .seat ∙ c .post-one .ensures .seat;
     }

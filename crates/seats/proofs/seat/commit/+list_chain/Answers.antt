@@ -18,7 +18,7 @@ returns-then-to-from t c =
     let table = c .list-chain .last .table in
     let long : to ≤ length table = omega (arith, c .list-chain .array-long, c .pre .1) in
     let done : take (to - 1) table ≡ take from before ++ drop from (chain-by par (to - 1) (par b)) =
-        c .list-chain .ensures ∙ ap (λ (q : ℕ). take from before ++ drop from (chain-by par (to - 1) q)) (c .parent .ensures) in
+    c .list-chain .ensures ∙ ap (λ (q : ℕ). take from before ++ drop from (chain-by par (to - 1) q)) (c .parent .ensures) in
     ap (λ (v : ℕ). take to (set table (to - 1) v)) (c .value .ensures .same)
     ∙ chain-block par from to b before table (c .if-to-from .taken) long done
 

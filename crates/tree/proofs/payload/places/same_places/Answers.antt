@@ -19,7 +19,7 @@ returns-then-a-i c =
     let i = c .loop-i .i in
     let low : i < length ys = omega (arith, c .if-a-b .left, c .loop-i-test .taken) in
     sym (c .loop-i .inv ∙ same-step xs ys i (c .loop-i-test .taken) low
-        ∙ ap (λ b. b && same-list (drop (i + 1) xs) (drop (i + 1) ys)) (ne-eqb _ _ (c .if-a-i .taken)))
+    ∙ ap (λ b. b && same-list (drop (i + 1) xs) (drop (i + 1) ys)) (ne-eqb _ _ (c .if-a-i .taken)))
 
 pub loop-i-again : need.loop-i-again
 loop-i-again c =

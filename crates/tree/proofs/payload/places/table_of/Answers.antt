@@ -13,10 +13,11 @@ loop-i-again c =
     let xs = c .args .places .now in
     let out = c .loop-i .table in
     let inv = c .loop-i .inv in
-    let low : i < length out = omega (arith, inv .0, c .pre) in
-    (length-set out i (getD xs i 0) ∙ inv .0,
-     ap (λ n. take n (set out i (getD xs i 0))) (add-one i) ∙ take-suc-set out i (getD xs i 0) low
-     ∙ ap (λ l. l ++ (getD xs i 0 ∷ [])) (inv .1) ∙ sym (take-suc xs i 0 (c .loop-i-test .taken)) ∙ ap (λ n. take n xs) (sym (add-one i)))
+    let low : i < length out = omega (arith, inv .0, c .pre) in (
+      length-set out i (getD xs i 0) ∙ inv .0,
+      ap (λ n. take n (set out i (getD xs i 0))) (add-one i) ∙ take-suc-set out i (getD xs i 0) low
+          ∙ ap (λ l. l ++ (getD xs i 0 ∷ [])) (inv .1) ∙ sym (take-suc xs i 0 (c .loop-i-test .taken)) ∙ ap (λ n. take n xs) (sym (add-one i)),
+    )
 
 pub returns : need.returns
 returns c =

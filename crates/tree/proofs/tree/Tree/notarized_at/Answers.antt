@@ -31,7 +31,7 @@ returns-then-not-sound-block c =
 pub loop-k-again : need.loop-k-again
 loop-k-again c =
     (c .loop-k .inv ∙ notarized-on (model (c .args .plan .now)) (c .args .self .now) (stored (c .args .pool .now)) (c .loop-k .k) (c .loop-k .b .value) (c .parent-b .result .value) (c .loop-k-test .taken)
-       (sym (c .if-not-contains .ensures tt)) (sym (c .if-not-contains-2 .ensures tt)) (sym (c .if-not-sound-block .ensures tt)) (c .parent-b .ensures))
+    (sym (c .if-not-contains .ensures tt)) (sym (c .if-not-contains-2 .ensures tt)) (sym (c .if-not-sound-block .ensures tt)) (c .parent-b .ensures))
 
 pub returns : need.returns
 returns c =

@@ -29,7 +29,7 @@ loop-i-again c =
     let p = model (c .args .plan .now) in
     let low : getD xs i 0 < p .entries = omega arith in
     c .loop-i .inv ∙ sound-on p (chain-places (c .args .self .now) (c .args .round) (c .args .block .value)) xs i (c .loop-i-test .taken)
-      (lt-ltb _ _ low) (sym (c .if-not-unlike-chain .ensures tt)) (plain p (getD xs i 0) i xs true (c .if-not-unlike .ensures tt))
+    (lt-ltb _ _ low) (sym (c .if-not-unlike-chain .ensures tt)) (plain p (getD xs i 0) i xs true (c .if-not-unlike .ensures tt))
 
 pub returns-then-x-entries : need.returns-then-x-entries
 returns-then-x-entries c =

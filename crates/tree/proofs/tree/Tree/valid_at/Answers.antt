@@ -33,7 +33,7 @@ returns-then-not-notarized-at c =
     let t = c .args .self .now in
     let pool = stored (c .args .pool .now) in
     sym (valid-stop p t pool (c .args .round) (c .args .block .value) up
-      (inr (ap (notarized-in p t pool (c .args .round - 1)) (sym (c .parent .ensures)) ∙ sym (c .if-not-notarized-at .ensures tt))))
+    (inr (ap (notarized-in p t pool (c .args .round - 1)) (sym (c .parent .ensures)) ∙ sym (c .if-not-notarized-at .ensures tt))))
 
 pub returns : need.returns
 returns c =
@@ -42,4 +42,4 @@ returns c =
     let t = c .args .self .now in
     let pool = stored (c .args .pool .now) in
     c .sound-block .ensures ∙ sym (valid-on p t pool (c .args .round) (c .args .block .value) up (sym (c .if-not-contains .ensures tt))
-      (ap (notarized-in p t pool (c .args .round - 1)) (sym (c .parent .ensures)) ∙ sym (c .if-not-notarized-at .ensures tt)))
+    (ap (notarized-in p t pool (c .args .round - 1)) (sym (c .parent .ensures)) ∙ sym (c .if-not-notarized-at .ensures tt)))
