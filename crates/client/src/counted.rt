@@ -19,7 +19,7 @@ impl<B: SealBook> CountedBook<B> {
         CountedBook { inner, taken: 0 }
     }
 
-    /// How many seals it took since it was made or cleared, up to all that there are.
+    /// Where its counter stands. What a book owes says nothing of a counter, so nothing is proved of how it counts.
     pub fn taken(&self) -> u16
         ensures { λ r. ⌜ r ≡ now (self .entry) .taken ⌝ }
     {
