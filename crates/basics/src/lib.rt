@@ -1,4 +1,6 @@
 //! The small types that everything stands on: wrapped numbers, sets of small numbers as masks, and a bounded list.
+#![tactic(auto)]
+
 pub mod list;
 pub mod mask;
 pub mod numbers;

@@ -1,4 +1,6 @@
 //! The nine calls of a hall.
+#![tactic(auto)]
+
 ghost use Rattle.std.specs.Prelude.{◌≡◌};
 ghost use Rattle.model.specs.Checks.{caller};
 ghost use Rattle.calls.specs.Asked.{asked, named_subject};

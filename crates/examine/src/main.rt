@@ -1,4 +1,6 @@
 //! Examines a paper: `examine [--frames] card|slip FILE` prints its record, in words or as frames.
+#![tactic(auto)]
+
 ghost use Rattle.std.specs.Prelude.{◌≡◌, length, if◌then◌else◌};
 ghost use Rattle.page.specs.Run.{answer, buffer_after};
 ghost use Rattle.page.specs.declared.types.Sort.TheVariants.{Cards, Slips};

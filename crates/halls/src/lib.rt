@@ -1,4 +1,6 @@
 //! The two halls as they are called from C: one exported function for each.
+#![tactic(auto)]
+
 ghost use Rattle.std.specs.Prelude.{◌≡◌, length};
 ghost use Rattle.hall.specs.Answers.{TheLaw};
 ghost use Rattle.page.specs.Listing.{WorkedPages};

@@ -1,4 +1,6 @@
 //! Lines of hexadecimal: a reader of the bytes of each, and a writer of one.
+#![tactic(auto)]
+
 mod hex;
 pub mod output;
 pub mod reader;

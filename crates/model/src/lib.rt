@@ -1,4 +1,6 @@
 //! The rules of a hall and the law over every complete journal of a lawful plan. The definitions are in specs/, the proofs in proofs/.
+#![tactic(auto)]
+
 ghost use Rattle.model.specs.Setup.{Plan, Lawful};
 ghost use Rattle.model.specs.Promises.{Promises};
 ghost use Rattle.model.specs.Runs.{ClosedRuns};

@@ -1,4 +1,6 @@
 //! The page: a submission's lines are run on a hall, and its record is written.
+#![tactic(auto)]
+
 mod entries;
 pub mod examine;
 pub mod fault;

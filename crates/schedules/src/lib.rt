@@ -1,4 +1,6 @@
 //! A run over a list of calls.
+#![tactic(auto)]
+
 ghost use Rattle.model.specs.Checks.{caller};
 ghost use Rattle.calls.specs.Asked.{asked, named_subject};
 ghost use Rattle.hall.specs.Faults.{answer};

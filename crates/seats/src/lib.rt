@@ -1,4 +1,6 @@
 //! A seat that follows the rules, with or without a hall.
+#![tactic(auto)]
+
 pub mod fault;
 pub mod outgoing;
 pub mod seat;

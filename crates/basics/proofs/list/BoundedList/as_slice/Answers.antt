@@ -4,8 +4,8 @@ use Rattle.std.proofs.lemmas.List.{length-take}
 use Rattle.std.proofs.lemmas.Bool.{cases_lt}
 use Rattle.basics.proofs.list.BoundedList.as_slice.Goals as goal
 
-pub slice-bounds-result-end-2 : goal.slice-bounds-result-end-2
-slice-bounds-result-end-2 g c =
+pub slice_bounds-result-end-2 : goal.slice_bounds-result-end-2
+slice_bounds-result-end-2 g c =
     let l = c.args.self.now.items.now in
     let few : c.len.result ≤ length l = omega (arith, c.len.ensures, length-take c.args.self.now.len l) in
     search rules
