@@ -66,9 +66,12 @@ def declared_by(line):
     for w in words:
         if w == ":" or w == "where":
             return out
+        if w == "=":
+            return []
         if w[0] in "({":
             rest = words[words.index(w):]
-            return out if ":" in rest or "where" in rest else []
+            stop = next((x for x in rest if x in ("=", ":", "where") ), "")
+            return out if stop in (":", "where") and "=" not in rest[: rest.index(stop)] and not ("=" in words and "→" not in words) else []
         if not TOKEN.fullmatch(w):
             return []
         out.append(w)

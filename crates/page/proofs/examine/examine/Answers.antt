@@ -4,11 +4,11 @@ use Rattle.page.specs.Journals.{RunsKept}
 use Rattle.page.proofs.JournalLaws.{runs_kept}
 use Rattle.page.proofs.examine.examine.Goals as goal
 
-pub returns_then_submission_gt65535 : goal.returns-then-submission-gt65535
-returns_then_submission_gt65535 g c = let law : RunsKept = runs_kept in search rules
+pub returns-then-submission-gt65535 : goal.returns-then-submission-gt65535
+returns-then-submission-gt65535 g c = let law : RunsKept = runs_kept in search rules
 
-pub returns_then_output_lt2048 : goal.returns-then-output-lt2048
-returns_then_output_lt2048 g c = let law : RunsKept = runs_kept in search rules
+pub returns-then-output-lt2048 : goal.returns-then-output-lt2048
+returns-then-output-lt2048 g c = let law : RunsKept = runs_kept in search rules
 
 pub returns : goal.returns
 returns g c = let law : RunsKept = runs_kept in search rules

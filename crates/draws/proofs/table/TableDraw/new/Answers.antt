@@ -10,8 +10,8 @@ use Rattle.draws.proofs.table.TableDraw.new.Goals as goal
 pub copied-table-requires : goal.copied-table-requires
 copied-table-requires c = record { sizes = (total_small c.args.n c.args.rounds (omega arith) (omega arith), c.if-ranks-total.false) }
 
-pub invariant-of-result : goal.invariant-of-result
-invariant-of-result c =
+pub invariant_of-result : goal.invariant_of-result
+invariant_of-result c =
     let n = c.args.n in
     let R = c.args.rounds in (
       omega arith,
@@ -21,7 +21,7 @@ invariant-of-result c =
           omega arith,
           (
             omega arith,
-            (ap (some_misplaced n R) (table_same n R c.copied-table.result c.args.ranks.now c.copied-table.ensures) ∙ not-true _ (sym c.if-not-all-once.ensures), tt),
+            (ap (some_misplaced n R) (table_same n R c.copied-table.result c.args.ranks.now c.copied-table.ensures) ∙ not-true _ (sym c.if-not-all_once.ensures), tt),
           ),
         ),
       ),
@@ -36,4 +36,4 @@ returns c =
     and_from _ _ (and_from _ _ (le-leb 1 n (omega arith)) (le-leb n 13 (omega arith))) (and_from _ _ (le-leb 1 R (omega arith)) (le-leb R 8 (omega arith))) in
     let as_made : (ℕ → ℕ → ℕ) → Result Meaning DrawFault = λ f. Ok (record { seats = n; rounds = R; rank = f }) in
     ap as_made (table_same n R c.copied-table.result xs c.copied-table.ensures)
-    ∙ sym (table_passes n R xs sized c.if-ranks-total.false (not-true _ (sym c.if-not-all-once.ensures)))
+    ∙ sym (table_passes n R xs sized c.if-ranks-total.false (not-true _ (sym c.if-not-all_once.ensures)))

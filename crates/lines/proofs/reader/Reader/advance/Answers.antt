@@ -20,40 +20,40 @@ returns-then-self c = record {
   falls = omega arith;
 }
 
-pub returns-then-has-feed : goal.returns-then-has-feed
-returns-then-has-feed c =
+pub returns-then-has_feed : goal.returns-then-has_feed
+returns-then-has_feed c =
     let text = c.args.self.now.text.now in
     let at = c.args.self.now.at in
-    let n = c.read-pairs-count.result in
-    let feed = is_feed (get_or text (at + 2 * n) 0) (sym c.has-feed.ensures ∙ c.if-has-feed.true) in
+    let n = c.read_pairs-count.result in
+    let feed = is_feed (get_or text (at + 2 * n) 0) (sym c.has_feed.ensures ∙ c.if-has_feed.true) in
     record {
-      line_is = line_read text at n (take n c.read-pairs-count.new.buffer) (omega arith) c.read-pairs-count.ensures.bytes c.read-pairs-count.ensures.count feed;
+      line_is = line_read text at n (take n c.read_pairs-count.new.buffer) (omega arith) c.read_pairs-count.ensures.bytes c.read_pairs-count.ensures.count feed;
       counts = refl;
       falls = omega (arith, feed_inside text (at + 2 * n) feed, length-drop at text, length-drop (at + 2 * n + 1) text);
     }
 
-pub invariant-of-self : goal.invariant-of-self
-invariant-of-self c =
+pub invariant_of-self : goal.invariant_of-self
+invariant_of-self c =
     let text = c.args.self.now.text.now in
-    let end = c.args.self.now.at + 2 * c.read-pairs-count.result in
-    let in_text = feed_inside text end (is_feed (get_or text end 0) (sym c.has-feed.ensures ∙ c.if-has-feed.true)) in
+    let end = c.args.self.now.at + 2 * c.read_pairs-count.result in
+    let in_text = feed_inside text end (is_feed (get_or text end 0) (sym c.has_feed.ensures ∙ c.if-has_feed.true)) in
     ((omega arith, omega arith, omega arith, omega arith), tt)
 
-pub invariant-of-self-2 : goal.invariant-of-self-2
-invariant-of-self-2 c =
+pub invariant_of-self-2 : goal.invariant_of-self-2
+invariant_of-self-2 c =
     let text = c.args.self.now.text.now in
-    let on = further text (c.args.self.now.at + 2 * c.read-pairs-count.result) c.next-line-self.result c.next-line-self.ensures.rest in
+    let on = further text (c.args.self.now.at + 2 * c.read_pairs-count.result) c.next_line-self.result c.next_line-self.ensures.rest in
     ((omega arith, omega arith, omega arith, omega arith), tt)
 
 pub returns : goal.returns
 returns c =
     let text = c.args.self.now.text.now in
     let at = c.args.self.now.at in
-    let n = c.read-pairs-count.result in
-    let next = c.next-line-self.result in
-    let feed = no_feed (get_or text (at + 2 * n) 0) (sym c.has-feed.ensures ∙ c.if-has-feed.false) in
+    let n = c.read_pairs-count.result in
+    let next = c.next_line-self.result in
+    let feed = no_feed (get_or text (at + 2 * n) 0) (sym c.has_feed.ensures ∙ c.if-has_feed.false) in
     record {
-      line_is = line_lost text at n (take n c.read-pairs-count.new.buffer) (omega arith) c.read-pairs-count.ensures.bytes c.read-pairs-count.ensures.count next feed c.next-line-self.ensures.rest;
+      line_is = line_lost text at n (take n c.read_pairs-count.new.buffer) (omega arith) c.read_pairs-count.ensures.bytes c.read_pairs-count.ensures.count next feed c.next_line-self.ensures.rest;
       counts = refl;
-      falls = omega (arith, further text (at + 2 * n) next c.next-line-self.ensures.rest, length-drop at text, length-drop next text);
+      falls = omega (arith, further text (at + 2 * n) next c.next_line-self.ensures.rest, length-drop at text, length-drop next text);
     }

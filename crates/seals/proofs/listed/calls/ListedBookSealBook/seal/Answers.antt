@@ -18,7 +18,7 @@ returns-then-find c =
     let s = c.args.seat in
     let b = c.args.subject in
     let ok : allowed k s b ≡ true = sym c.allows.ensures ∙ c.if-not-allows.false in
-    let there : listed xs k s b ≡ true = sym (ap (λ l. listed l k s b) c.as-slice.ensures) ∙ sym c.if-find.ensures in
+    let there : listed xs k s b ≡ true = sym (ap (λ l. listed l k s b) c.as_slice.ensures) ∙ sym c.if-find.ensures in
     let held : list_holds xs k s b ≡ true = and_from (allowed k s b) (listed xs k s b) ok there in
     record { answer = sym (and_right (allowed k s b) (not (list_holds xs k s b)) (not_from_true _ held)); after = not_added (list_holds xs) k s b (inr held); order = refl }
 
@@ -33,7 +33,7 @@ can_be : (c : After-push) → allowed c.args.kind c.args.seat c.args.subject ≡
 can_be c = sym c.allows.ensures ∙ c.if-not-allows.false
 
 is_new : (c : After-push) → listed (old c) c.args.kind c.args.seat c.args.subject ≡ false
-is_new c = sym (ap (λ l. listed l c.args.kind c.args.seat c.args.subject) c.as-slice.ensures) ∙ sym c.if-find.ensures
+is_new c = sym (ap (λ l. listed l c.args.kind c.args.seat c.args.subject) c.as_slice.ensures) ∙ sym c.if-find.ensures
 
 finds_room : (c : After-push) → c.push.result ≡ true
 finds_room c =
@@ -44,8 +44,8 @@ finds_room c =
 grown : (c : After-push) → contents c.push.new.self ≡ old c ++ new c ∷ []
 grown c = c.push.ensures.after ∙ ap (λ r. cond r (old c ++ new c ∷ []) (old c)) (finds_room c)
 
-pub invariant-of-self : goal.invariant-of-self
-invariant-of-self c = (
+pub invariant_of-self : goal.invariant_of-self
+invariant_of-self c = (
   subst (λ (n : ℕ). 8216 ≤ n) (sym c.push.ensures.space) c.args.self.now.big,
   (ap sound (grown c) ∙ sound_push (old c) (new c) c.args.self.now.good (can_be c) (is_new c), tt),
 )

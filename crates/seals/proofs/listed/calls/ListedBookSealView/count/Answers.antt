@@ -12,4 +12,4 @@ returns c =
     let k = c.args.kind in
     let b = c.args.subject in
     c.size.ensures.count
-    ∙ tally_same _ _ 13 (λ s h. c.signers.ensures s h ∙ ap (λ l. listed l k s b) c.as-slice.ensures ∙ listed_allowed xs k s b c.args.self.now.good)
+    ∙ tally_same _ _ 13 (λ s h. c.signers.ensures s h ∙ ap (λ l. listed l k s b) c.as_slice.ensures ∙ listed_allowed xs k s b c.args.self.now.good)

@@ -10,7 +10,7 @@ use Rattle.seals.proofs.row.calls.RowBookSealBook.seal.Goals as goal
 
 pub returns-then-at-ge-ROWS : goal.returns-then-at-ge-ROWS
 returns-then-at-ge-ROWS c =
-    let at = c.row-at-at.ensures in
+    let at = c.row_at-at.ensures in
     let ms = c.args.self.now.masks.now in
     let out = row_short c.args.kind c.args.seat c.args.subject
     (⊎_elim (λ h. inl (subst (λ (x : ℕ). 632 ≤ x) at h)) (λ h. inr h.1) c.then-at-ge-ROWS.either) in
@@ -18,7 +18,7 @@ returns-then-at-ge-ROWS c =
 
 pub returns-then-has : goal.returns-then-has
 returns-then-has c =
-    let at = c.row-at-at.ensures in
+    let at = c.row_at-at.ensures in
     let ms = c.args.self.now.masks.now in
     let k = c.args.kind in
     let s = c.args.seat in
@@ -29,7 +29,7 @@ returns-then-has c =
 
 pub returns : goal.returns
 returns c =
-    let at = c.row-at-at.ensures in
+    let at = c.row_at-at.ensures in
     let ms = c.args.self.now.masks.now in
     let k = c.args.kind in
     let s = c.args.seat in
