@@ -102,9 +102,21 @@ silent_step k x y r more true true p q g =
 silent_step k x y r more true false p q g = grind (arith, nat_tests)
 silent_step k x y r more false b p q g = grind (arith, nat_tests)
 
+last_holds : (a b c : Bool) → c ≡ true → (a || (b || c)) ≡ true
+last_holds true b c h = refl
+last_holds false true c h = refl
+last_holds false false c h = h
+
+-- a text that begins with another character than a line feed has a first line of at least that one
+silent_start : (x : ℕ) (xs : List ℕ) → x ≢ 10 → silent zero (x ∷ xs) ≡ true
+silent_start x xs e =
+    let z : eqb x 10 ≡ false = grind (arith, nat_tests) in
+    let line : length (first_line (x ∷ xs)) ≡ suc (length (first_line xs)) = ap (λ b. length (cond b [] (x ∷ first_line xs))) z in
+    last_holds (not (ended (x ∷ xs))) (not (paired (first_line (x ∷ xs)))) _ (lt-ltb (2 * zero) (length (first_line (x ∷ xs))) (omega (arith, line)))
+
 no_line : (k : ℕ) (s : List ℕ) → get_or s (2 * length (leading_bytes k s)) 0 ≢ 10 → silent k s ≡ true
 no_line k [] e = refl
-no_line zero (x ∷ xs) e = grind (arith, nat_tests)
+no_line zero (x ∷ xs) e = silent_start x xs e
 no_line (suc k) (x ∷ []) e = grind (arith, nat_tests)
 no_line (suc k) (x ∷ y ∷ r) e = silent_step k x y r (no_line k r) (ltb (digit x) 16) (ltb (digit y) 16) refl refl e
 

@@ -13,19 +13,14 @@ copied-table-requires c = record { sizes = (total_small c.args.n c.args.rounds (
 pub invariant_of-result : goal.invariant_of-result
 invariant_of-result c =
     let n = c.args.n in
-    let R = c.args.rounds in (
-      omega arith,
-      (
-        omega arith,
-        (
-          omega arith,
-          (
-            omega arith,
-            (ap (some_misplaced n R) (table_same n R c.copied-table.result c.args.ranks.now c.copied-table.ensures) ∙ not-true _ (sym c.if-not-all_once.ensures), tt),
-          ),
-        ),
-      ),
-    )
+    let R = c.args.rounds in
+    record {
+      some = omega arith;
+      few = omega arith;
+      begun = omega arith;
+      short = omega arith;
+      once = ap (some_misplaced n R) (table_same n R c.copied-table.result c.args.ranks.now c.copied-table.ensures) ∙ not-true _ (sym c.if-not-all_once.ensures);
+    }
 
 pub returns : goal.returns
 returns c =

@@ -37,13 +37,13 @@ invariant_of-self c =
     let text = c.args.self.now.text.now in
     let end = c.args.self.now.at + 2 * c.read_pairs-count.result in
     let in_text = feed_inside text end (is_feed (get_or text end 0) (sym c.has_feed.ensures ∙ c.if-has_feed.true)) in
-    ((omega arith, omega arith, omega arith, omega arith), tt)
+    record { ok = (omega arith, omega arith, omega arith, omega arith) }
 
 pub invariant_of-self-2 : goal.invariant_of-self-2
 invariant_of-self-2 c =
     let text = c.args.self.now.text.now in
     let on = further text (c.args.self.now.at + 2 * c.read_pairs-count.result) c.next_line-self.result c.next_line-self.ensures.rest in
-    ((omega arith, omega arith, omega arith, omega arith), tt)
+    record { ok = (omega arith, omega arith, omega arith, omega arith) }
 
 pub returns : goal.returns
 returns c =

@@ -45,10 +45,10 @@ grown : (c : After-push) → contents c.push.new.self ≡ old c ++ new c ∷ []
 grown c = c.push.ensures.after ∙ ap (λ r. cond r (old c ++ new c ∷ []) (old c)) (finds_room c)
 
 pub invariant_of-self : goal.invariant_of-self
-invariant_of-self c = (
-  subst (λ (n : ℕ). 8216 ≤ n) (sym c.push.ensures.space) c.args.self.now.big,
-  (ap sound (grown c) ∙ sound_push (old c) (new c) c.args.self.now.good (can_be c) (is_new c), tt),
-)
+invariant_of-self c = record {
+  big = subst (λ (n : ℕ). 8216 ≤ n) (sym c.push.ensures.space) c.args.self.now.big;
+  good = ap sound (grown c) ∙ sound_push (old c) (new c) c.args.self.now.good (can_be c) (is_new c);
+}
 
 pub returns : goal.returns
 returns c =
