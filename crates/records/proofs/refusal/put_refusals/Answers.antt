@@ -15,11 +15,11 @@ loop-f-preserved c =
     let at = c.loop-f.next in
     let bs = refusal_frame (get_or fs i none) in
     let rest = map refusal_frame (drop (i + 1) fs) in
-    let bytes : c.put-line-next.new.out ≡ put out at bs = c.put-line-next.ensures.buffer ∙ ap (put out at) c.refusal-frame.ensures in
-    let next : c.put-line-next.result ≡ place_after out at bs = c.put-line-next.ensures.next ∙ ap (place_after out at) c.refusal-frame.ensures in (
-      ap (λ o. put_all o c.put-line-next.result rest) bytes ∙ ap (λ k. put_all (put out at bs) k rest) next
+    let bytes : c.put_line-next.new.out ≡ put out at bs = c.put_line-next.ensures.buffer ∙ ap (put out at) c.refusal_frame.ensures in
+    let next : c.put_line-next.result ≡ place_after out at bs = c.put_line-next.ensures.next ∙ ap (place_after out at) c.refusal_frame.ensures in (
+      ap (λ o. put_all o c.put_line-next.result rest) bytes ∙ ap (λ k. put_all (put out at bs) k rest) next
           ∙ sym (at_drop_more (λ s. put_all out at (map refusal_frame s)) fs i none (omega arith)) ∙ c.loop-f.invariant.0,
-      ap (λ o. place_after_all o c.put-line-next.result rest) bytes ∙ ap (λ k. place_after_all (put out at bs) k rest) next
+      ap (λ o. place_after_all o c.put_line-next.result rest) bytes ∙ ap (λ k. place_after_all (put out at bs) k rest) next
           ∙ sym (at_drop_more (λ s. place_after_all out at (map refusal_frame s)) fs i none (omega arith)) ∙ c.loop-f.invariant.1,
     )
 

@@ -8,5 +8,5 @@ pub returns : goal.returns
 returns c =
     let m = means c.args.m in
     let ms = c.args.self.now.rows in
-    c.has.ensures ∙ ap₂ (λ x y. bit (get_or ms x 0) y) c.message-row.ensures.is c.message-bit.ensures.is
+    c.has.ensures ∙ ap₂ (λ x y. bit (get_or ms x 0) y) c.message_row.ensures.is c.message_bit.ensures.is
     ∙ in_row ms m.kind m.signer m.subject (message_fits c.args.m)

@@ -9,5 +9,5 @@ pub returns : goal.returns
 returns c =
     let ms = c.args.self.now.rows in
     let x = c.args.share in
-    c.size-below.ensures.count ∙ ap (λ r. tally (bit (get_or ms r 0)) c.args.n) c.share-row.ensures.is
+    c.size_below.ensures.count ∙ ap (λ r. tally (bit (get_or ms r 0)) c.args.n) c.share_row.ensures.is
     ∙ row_count ms (share_kind x) (share_subject x) c.args.n (share_fits x)

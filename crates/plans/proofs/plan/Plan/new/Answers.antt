@@ -5,51 +5,19 @@ use Rattle.plans.proofs.Drawn.{rank_taken, ranks_below, ranks_apart}
 use Rattle.plans.proofs.Fresh.{none_corrupt, fresh_is, planned_is}
 use Rattle.plans.proofs.plan.Plan.new.Goals as goal
 
-pub invariant-of-result : goal.invariant-of-result
-invariant-of-result g c =
+pub invariant_of-result : goal.invariant_of-result
+invariant_of-result g c =
     let dr = c.args.draw.now in
     let n = g.D.Draw.seats dr in
     let R = g.D.Draw.rounds dr in
     let rank = g.D.Draw.rank dr in
-    let en = sym c.seat-count-seats.ensures in
-    let eR = sym c.round-count.ensures in
+    let en = sym c.seat_count-seats.ensures in
+    let eR = sym c.round_count.ensures in
     let in_bounds = g.D.Draw.within dr in
-    let ranks = c.ranks-of-ranks.result in
-    let low = ranks_below n R rank ranks in_bounds.few_seats in_bounds.few_rounds c.ranks-of-ranks.ensures (g.D.Draw.once dr) in
-    let apart = ranks_apart n R rank ranks in_bounds.few_seats in_bounds.few_rounds c.ranks-of-ranks.ensures (g.D.Draw.once dr) in (
-      omega (arith, in_bounds.some_seat, en),
-      (
-        omega (arith, in_bounds.few_seats, en),
-        (
-          omega (arith, in_bounds.some_round, eR),
-          (
-            omega (arith, in_bounds.few_rounds, eR),
-            (
-              omega arith,
-              (
-                none_corrupt _ _,
-                (
-                  c.if-d-gt10000.false,
-                  (
-                    c.if-e-gt10000.false,
-                    (
-                      omega arith,
-                      (
-                        subst (λ (m : ℕ). RanksBelow m c.round-count.result ranks) en (subst (λ (k : ℕ). RanksBelow n k ranks) eR low),
-                        (
-                          subst (λ (m : ℕ). RanksApart m c.round-count.result ranks) en (subst (λ (k : ℕ). RanksApart n k ranks) eR apart),
-                          ((λ q. absurd (omega (arith, q.one_low))), ((λ q e. absurd (omega (arith, q.one_low))), tt)),
-                        ),
-                      ),
-                    ),
-                  ),
-                ),
-              ),
-            ),
-          ),
-        ),
-      ),
-    )
+    let ranks = c.ranks_of-ranks.result in
+    let low = ranks_below n R rank ranks in_bounds.few_seats in_bounds.few_rounds c.ranks_of-ranks.ensures (g.D.Draw.once dr) in
+    let apart = ranks_apart n R rank ranks in_bounds.few_seats in_bounds.few_rounds c.ranks_of-ranks.ensures (g.D.Draw.once dr) in
+    record { some = omega (arith, in_bounds.some_seat, en); few = omega (arith, in_bounds.few_seats, en); first = omega (arith, in_bounds.some_round, eR); last = omega (arith, in_bounds.few_rounds, eR); outvoted = omega arith; rare = none_corrupt _ _; quick = c.if-d-gt10000.false; soon = c.if-e-gt10000.false; listed = omega arith; below = subst (λ (m : ℕ). RanksBelow m c.round_count.result ranks) en (subst (λ (k : ℕ). RanksBelow n k ranks) eR low); apart = subst (λ (m : ℕ). RanksApart m c.round_count.result ranks) en (subst (λ (k : ℕ). RanksApart n k ranks) eR apart); same = (λ q. absurd (omega (arith, q.one_low))); back = (λ q e. absurd (omega (arith, q.one_low))) }
 
 pub returns : goal.returns
 returns g c =
@@ -57,13 +25,13 @@ returns g c =
     let n = g.D.Draw.seats dr in
     let R = g.D.Draw.rounds dr in
     let rank = g.D.Draw.rank dr in
-    let en : c.seat-count-seats.result ≡ n = c.seat-count-seats.ensures in
-    let eR : c.round-count.result ≡ R = c.round-count.ensures in
+    let en : c.seat_count-seats.result ≡ n = c.seat_count-seats.ensures in
+    let eR : c.round_count.result ≡ R = c.round_count.ensures in
     let in_bounds = g.D.Draw.within dr in
-    let ranks = c.ranks-of-ranks.result in
-    let taken = rank_taken n R rank ranks in_bounds.few_seats in_bounds.few_rounds c.ranks-of-ranks.ensures in
-    let here : rank_in c.seat-count-seats.result c.round-count.result ranks ≡ drawn_rank c.seat-count-seats.result c.round-count.result rank =
+    let ranks = c.ranks_of-ranks.result in
+    let taken = rank_taken n R rank ranks in_bounds.few_seats in_bounds.few_rounds c.ranks_of-ranks.ensures in
+    let here : rank_in c.seat_count-seats.result c.round_count.result ranks ≡ drawn_rank c.seat_count-seats.result c.round_count.result rank =
     (λ i. rank_in (en i) (eR i) ranks) ∙ taken ∙ sym (λ i. drawn_rank (en i) (eR i) rank) in
-    ap Ok (fresh_is c.seat-count-seats.result c.round-count.result rank c.args.most-corrupt c.args.d c.args.e ranks (replicate {A = ℕ} 128 0) here)
-    ∙ planned_is c.seat-count-seats.result c.round-count.result rank c.args.most-corrupt c.args.d c.args.e (omega arith) c.if-d-gt10000.false c.if-e-gt10000.false
-    ∙ (λ i. planned (en i) (eR i) rank c.args.most-corrupt c.args.d c.args.e)
+    ap Ok (fresh_is c.seat_count-seats.result c.round_count.result rank c.args.most_corrupt c.args.d c.args.e ranks (replicate {A = ℕ} 128 0) here)
+    ∙ planned_is c.seat_count-seats.result c.round_count.result rank c.args.most_corrupt c.args.d c.args.e (omega arith) c.if-d-gt10000.false c.if-e-gt10000.false
+    ∙ (λ i. planned (en i) (eR i) rank c.args.most_corrupt c.args.d c.args.e)

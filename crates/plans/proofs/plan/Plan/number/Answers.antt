@@ -1,20 +1,20 @@
 use Rattle.std.proofs.Common.{◌≡◌, ℕ, ◌+◌, ◌-◌, ◌*◌, ◌<◌, ◌≤◌, min, sym, refl, ap, ◌∙◌, ap₂, mul-le-mul, arith}
 use Rattle.plans.proofs.plan.Plan.number.Goals as goal
 
-pub overflow-mul-pair-2 : goal.overflow-mul-pair-2
-overflow-mul-pair-2 c =
+pub overflow_mul-pair-2 : goal.overflow_mul-pair-2
+overflow_mul-pair-2 c =
     let n = c.args.self.now.seats in
     let low : c.value.result - 1 ≤ 7 = omega (arith, c.value.ensures.last) in
     let h : (c.value.result - 1) * n ≤ 7 * 13 = mul-le-mul low c.args.self.now.few in omega (arith, c.value-2.ensures.low)
 
-pub overflow-add-pair-2 : goal.overflow-add-pair-2
-overflow-add-pair-2 c =
+pub overflow_add-pair-2 : goal.overflow_add-pair-2
+overflow_add-pair-2 c =
     let n = c.args.self.now.seats in
     let low : c.value.result - 1 ≤ 7 = omega (arith, c.value.ensures.last) in
     let h : (c.value.result - 1) * n ≤ 7 * 13 = mul-le-mul low c.args.self.now.few in omega (arith, c.value-2.ensures.low)
 
-pub overflow-add-pair-3 : goal.overflow-add-pair-3
-overflow-add-pair-3 c =
+pub overflow_add-pair-3 : goal.overflow_add-pair-3
+overflow_add-pair-3 c =
     let n = c.args.self.now.seats in
     let low : c.value.result - 1 ≤ 7 = omega (arith, c.value.ensures.last) in
     let h : (c.value.result - 1) * n ≤ 7 * 13 = mul-le-mul low c.args.self.now.few in omega (arith, c.value-2.ensures.low)

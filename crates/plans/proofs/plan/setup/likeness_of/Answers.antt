@@ -8,12 +8,12 @@ loop-i-preserved g c =
     let inv = c.loop-i.invariant in
     let i = c.loop-i.i in
     let rows = c.loop-i.likeness in
-    let row = c.likeness-row.result in
+    let row = c.likeness_row.result in
     let low : i < length rows = omega (arith, inv.0, c.requires, c.loop-i-test.true) in (
       length-set rows i row ∙ inv.0,
       below_more _ _
           (λ k h j hj. ap (λ (m : ℕ). bit m j) (get_or-set_other rows i k row 0 (λ e. omega arith)) ∙ inv.1 k h j hj)
-          (λ j hj. ap (λ (m : ℕ). bit m j) (get_or-set_same rows i row 0 low) ∙ c.likeness-row.ensures j hj),
+          (λ j hj. ap (λ (m : ℕ). bit m j) (get_or-set_same rows i row 0 low) ∙ c.likeness_row.ensures j hj),
     )
 
 pub returns : goal.returns
