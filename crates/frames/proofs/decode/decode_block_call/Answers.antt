@@ -9,5 +9,5 @@ use Rattle.frames.proofs.decode.decode_block_call.Goals as goal
 pub returns-in-18 : goal.returns-in-18
 returns-in-18 c =
     let bs = c.args.bytes.now in
-    let whole : call (propose (get_or bs 1 0) c.from-be-bytes-in-18.result (drop 4 bs)) ≡ block_frame bs = search rules in
-    ap (λ q. call (propose (get_or bs 1 0) c.from-be-bytes-in-18.result q)) (take_rest bs 4) ∙ whole
+    let whole : call (propose (get_or bs 1 0) c.from_be_bytes-in-18.result (drop 4 bs)) ≡ block_frame bs = search rules in
+    ap (λ q. call (propose (get_or bs 1 0) c.from_be_bytes-in-18.result q)) (take_rest bs 4) ∙ whole

@@ -9,5 +9,5 @@ use Rattle.frames.proofs.decode.decode_message_call.Goals as goal
 pub returns-in-23 : goal.returns-in-23
 returns-in-23 c =
     let bs = c.args.bytes.now in
-    let whole : call (forge (get_or bs 1 0) (get_or bs 2 0) c.from-be-bytes-in-23.result (drop 5 bs)) ≡ message_frame bs = search rules in
-    ap (λ q. call (forge (get_or bs 1 0) (get_or bs 2 0) c.from-be-bytes-in-23.result q)) (take_rest bs 5) ∙ whole
+    let whole : call (forge (get_or bs 1 0) (get_or bs 2 0) c.from_be_bytes-in-23.result (drop 5 bs)) ≡ message_frame bs = search rules in
+    ap (λ q. call (forge (get_or bs 1 0) (get_or bs 2 0) c.from_be_bytes-in-23.result q)) (take_rest bs 5) ∙ whole

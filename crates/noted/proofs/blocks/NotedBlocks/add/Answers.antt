@@ -4,8 +4,8 @@ use Rattle.noted.specs.Flags.{Raised}
 use Rattle.noted.proofs.Searches.{raised_one}
 use Rattle.noted.proofs.blocks.NotedBlocks.add.Goals as goal
 
-pub invariant-of-self : goal.invariant-of-self
-invariant-of-self c =
+pub invariant_of-self : goal.invariant_of-self
+invariant_of-self c =
     let x = c.args.self.now in
     let i = c.value-number.result in
     let above : (q : Raised (set x.flags i true)) → c.lowest-self.result ≤ q.at =
@@ -21,4 +21,4 @@ invariant-of-self c =
       | inl e ↦ omega (arith, c.max-self.ensures)
       | inr r ↦ (let old : Raised x.flags = record { at = q.at; is_raised = r } in omega (arith, x.below old, c.max-self.ensures))
     ] in
-    (above, (below, (omega (arith, c.max-self.ensures, x.short, c.value-number.ensures.low), tt)))
+    record { above = above; below = below; short = omega (arith, c.max-self.ensures, x.short, c.value-number.ensures.low) }

@@ -13,15 +13,15 @@ loop-b-init c =
     let p = model c.args.plan.now in
     none_before x.flags (λ (b : ℕ). eqb (rank_of p b) c.args.rank.value) x.low x.above
 
-pub returns-then-has-with-rank : goal.returns-then-has-with-rank
+pub returns-then-has_with_rank : goal.returns-then-has_with_rank
 unfolding rank_noted
-returns-then-has-with-rank c =
+returns-then-has_with_rank c =
     let x = c.args.self.now in
     let p = model c.args.plan.now in
     let f : ℕ → Bool = λ b. get_or x.flags b false && eqb (rank_of p b) c.args.rank.value in
     let low : c.loop-b.b < numbers p = omega (arith, c.min-b-end.ensures, c.numbers.ensures.is, c.loop-b-test.true) in
     let at : c.capped.result.value ≡ c.loop-b.b = omega (arith, c.capped.ensures, c.numbers.ensures.few, c.min-b-end.ensures, c.loop-b-test.true) in
-    sym (find f (numbers p) c.loop-b.b low (ap f (sym at) ∙ sym c.if-has-with-rank.ensures))
+    sym (find f (numbers p) c.loop-b.b low (ap f (sym at) ∙ sym c.if-has_with_rank.ensures))
 
 pub loop-b-preserved : goal.loop-b-preserved
 loop-b-preserved c =
@@ -29,7 +29,7 @@ loop-b-preserved c =
     let p = model c.args.plan.now in
     let f : ℕ → Bool = λ b. get_or x.flags b false && eqb (rank_of p b) c.args.rank.value in
     let at : c.capped.result.value ≡ c.loop-b.b = omega (arith, c.capped.ensures, c.numbers.ensures.few, c.min-b-end.ensures, c.loop-b-test.true) in
-    none_more f c.loop-b.b c.loop-b.invariant (ap f (sym at) ∙ sym c.if-has-with-rank.ensures)
+    none_more f c.loop-b.b c.loop-b.invariant (ap f (sym at) ∙ sym c.if-has_with_rank.ensures)
 
 pub returns : goal.returns
 unfolding rank_noted

@@ -18,7 +18,7 @@ loop-v-preserved c =
     let e : 3 * q + v + 1 ≡ 3 * q + (v + 1) = omega arith in
     let at : c.capped.result.value ≡ q = omega (arith, c.capped.ensures, c.value-q-end.ensures.low, c.loop-q-test.true) in
     let not_here : better_in p t x r (block_of_rank p x q v) ≡ false =
-    ap (λ (k : ℕ). better_in p t x r (block_of_rank p x k v)) (sym at) ∙ none_found _ _ c.in-default.ensures in
+    ap (λ (k : ℕ). better_in p t x r (block_of_rank p x k v)) (sym at) ∙ none_found _ _ c.in_default.ensures in
     ap (some_below (better_nth p t x r)) (sym e)
     ∙ none_more (better_nth p t x r) (3 * q + v) c.loop-v.invariant (ap (better_in p t x r) (nth p t x r q v c.loop-v-test.true) ∙ not_here)
 

@@ -17,9 +17,9 @@ parts : (own : Bool) (m : Said) (whole share : List Said) → cond own [] (m ∷
 parts true m whole share = refl
 parts false m whole share = refl
 
-pub take-note-share-requires : goal.take-note-share-requires
-take-note-share-requires g c =
-    echo_not_root (model c.args.plan.now) c.args.tree.now c.args.self.now c.args.who.value c.args.block.value c.in-ok-may-echo.ensures
+pub take_note-share-requires : goal.take_note-share-requires
+take_note-share-requires g c =
+    echo_not_root (model c.args.plan.now) c.args.tree.now c.args.self.now c.args.who.value c.args.block.value c.in_ok-may_echo.ensures
 
 pub returns : goal.returns
 unfolding rank_noted
@@ -30,11 +30,11 @@ returns g c =
     let s = c.args.who.value in
     let b = c.args.block.value in
     let held = g.B.SealView.held c.args.book.now in
-    let n = c.take-note-share.ensures in
+    let n = c.take_note-share.ensures in
     let share : List Said = cond (rank_noted p x (rank_of p b)) [] (notarization_share s b ∷ []) in
     record {
-      rule = rule_accepts 3 p (desk t held x) (echo s b) c.in-ok-may-echo.ensures
-          ((λ i. c.passed-block-passed.ensures i ++ (c.passed-whole-whole.ensures i ++ n.share i))
+      rule = rule_accepts 3 p (desk t held x) (echo s b) c.in_ok-may_echo.ensures
+          ((λ i. c.passed_block-passed.ensures i ++ (c.passed_whole-whole.ensures i ++ n.share i))
           ∙ parts (eqb (maker_of p b) s) (block b) (parent_notarization (parents t b)) share)
           n.seat (n.seals ∙ ap (λ (l : List Said). sealed_with l held) n.share);
       pool = n.pool;

@@ -19,9 +19,9 @@ returns-in-Err g c =
 pub returns : goal.returns
 returns g c =
     let held = g.B.SealView.held c.args.book.now in
-    let sh = c.seal-beacon-share.ensures in
+    let sh = c.seal_beacon-share.ensures in
     record {
-      rule = λ t. rule_accepts 2 (model c.args.plan.now) (desk t held c.args.self.now) (enter c.args.who.value) (c.in-default.ensures t)
-          sh.share c.begin-round.ensures.seat (sh.seals ∙ ap (λ (l : List Said). sealed_with l held) sh.share);
-      pool = c.begin-round.ensures.pool;
+      rule = λ t. rule_accepts 2 (model c.args.plan.now) (desk t held c.args.self.now) (enter c.args.who.value) (c.in_default.ensures t)
+          sh.share c.begin_round.ensures.seat (sh.seals ∙ ap (λ (l : List Said). sealed_with l held) sh.share);
+      pool = c.begin_round.ensures.pool;
     }

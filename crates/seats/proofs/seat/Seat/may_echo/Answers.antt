@@ -9,8 +9,8 @@ returns-then-not-valid c =
     let e : refused 18 4 c.args.who.value c.args.block.value ≡ echo_judged (model c.args.plan.now) c.args.tree.now c.args.self.now c.args.who.value c.args.block.value = search rules in
     e ∙ echo_judged_is (model c.args.plan.now) c.args.tree.now c.args.self.now c.args.who.value c.args.block.value
 
-pub returns-then-saturating-sub-ntry-delay : goal.returns-then-saturating-sub-ntry-delay
-returns-then-saturating-sub-ntry-delay c =
+pub returns-then-saturating_sub-ntry_delay : goal.returns-then-saturating_sub-ntry_delay
+returns-then-saturating_sub-ntry_delay c =
     let e : refused 14 4 c.args.who.value c.args.block.value ≡ echo_judged (model c.args.plan.now) c.args.tree.now c.args.self.now c.args.who.value c.args.block.value = search rules in
     e ∙ echo_judged_is (model c.args.plan.now) c.args.tree.now c.args.self.now c.args.who.value c.args.block.value
 

@@ -9,8 +9,8 @@ returns-then-not-valid c =
     let e : refused 18 4 c.args.who.value c.args.block.value ≡ finish_judged (model c.args.plan.now) c.args.tree.now c.args.self.now c.args.who.value c.args.block.value = search rules in
     e ∙ finish_judged_is (model c.args.plan.now) c.args.tree.now c.args.self.now c.args.who.value c.args.block.value
 
-pub returns-then-not-is-notarizable : goal.returns-then-not-is-notarizable
-returns-then-not-is-notarizable c =
+pub returns-then-not-is_notarizable : goal.returns-then-not-is_notarizable
+returns-then-not-is_notarizable c =
     let e : refused 21 4 c.args.who.value c.args.block.value ≡ finish_judged (model c.args.plan.now) c.args.tree.now c.args.self.now c.args.who.value c.args.block.value = search rules in
     e ∙ finish_judged_is (model c.args.plan.now) c.args.tree.now c.args.self.now c.args.who.value c.args.block.value
 

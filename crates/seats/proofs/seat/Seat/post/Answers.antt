@@ -11,9 +11,9 @@ returns c =
     let f = pooled c.args.self.now in
     let g = stored c.args.marks.now in
     record {
-      pool = c.post-one-3.ensures.pool ∙ ap (with_all (maybe x.share)) (c.post-one-2.ensures.pool ∙ ap (with_all (maybe x.whole)) c.post-one.ensures.pool ∙ with_both (maybe x.block) (maybe x.whole) f)
+      pool = c.post_one-3.ensures.pool ∙ ap (with_all (maybe x.share)) (c.post_one-2.ensures.pool ∙ ap (with_all (maybe x.whole)) c.post_one.ensures.pool ∙ with_both (maybe x.block) (maybe x.whole) f)
           ∙ with_both (maybe x.block ++ maybe x.whole) (maybe x.share) f ∙ ap (λ l. with_all l f) (append_assoc (maybe x.block) (maybe x.whole) (maybe x.share));
-      marks = c.post-one-3.ensures.marks ∙ ap (with_all (maybe x.share)) (c.post-one-2.ensures.marks ∙ ap (with_all (maybe x.whole)) c.post-one.ensures.marks ∙ with_both (maybe x.block) (maybe x.whole) g)
+      marks = c.post_one-3.ensures.marks ∙ ap (with_all (maybe x.share)) (c.post_one-2.ensures.marks ∙ ap (with_all (maybe x.whole)) c.post_one.ensures.marks ∙ with_both (maybe x.block) (maybe x.whole) g)
           ∙ with_both (maybe x.block ++ maybe x.whole) (maybe x.share) g ∙ ap (λ l. with_all l g) (append_assoc (maybe x.block) (maybe x.whole) (maybe x.share));
-      seat = c.post-one-3.ensures.seat ∙ c.post-one-2.ensures.seat ∙ c.post-one.ensures.seat;
+      seat = c.post_one-3.ensures.seat ∙ c.post_one-2.ensures.seat ∙ c.post_one.ensures.seat;
     }

@@ -11,10 +11,10 @@ returns-then-to-from t c =
     let from = c.args.from in
     let to = c.args.to in
     let before = c.args.table.now in
-    let table = c.list-chain.new.table in
-    let long : to ≤ length table = omega (arith, c.list-chain.array_long, c.requires.1) in
+    let table = c.list_chain.new.table in
+    let long : to ≤ length table = omega (arith, c.list_chain.array_long, c.requires.1) in
     let done : take (to - 1) table ≡ take from before ++ drop from (chain_by par (to - 1) (par b)) =
-    c.list-chain.ensures ∙ ap (λ (q : ℕ). take from before ++ drop from (chain_by par (to - 1) q)) c.parent.ensures in
+    c.list_chain.ensures ∙ ap (λ (q : ℕ). take from before ++ drop from (chain_by par (to - 1) q)) c.parent.ensures in
     ap (λ (v : ℕ). take to (set table (to - 1) v)) c.value.ensures.same
     ∙ chain_block par from to b before table c.if-to-from.true long done
 

@@ -1,4 +1,4 @@
 use Rattle.seats.proofs.seat.commit.+list_chain.Given as goal
 
-abbrev pub decreases-list-chain : goal.decreases-list-chain
-decreases-list-chain l = l.to
+abbrev pub decreases-list_chain : goal.decreases-list_chain
+decreases-list_chain l = l.to

@@ -16,14 +16,14 @@ pub returns-then-not-contains-2 : goal.returns-then-not-contains-2
 returns-then-not-contains-2 c =
     sym (c.loop-k.invariant ∙ notarized_stop (model c.args.plan.now) c.args.self.now (stored c.args.pool.now) c.loop-k.k c.loop-k.b.value c.loop-k-test.true (inr (inl (sym c.if-not-contains-2.ensures))))
 
-pub returns-then-not-sound-block : goal.returns-then-not-sound-block
-returns-then-not-sound-block c =
-    sym (c.loop-k.invariant ∙ notarized_stop (model c.args.plan.now) c.args.self.now (stored c.args.pool.now) c.loop-k.k c.loop-k.b.value c.loop-k-test.true (inr (inr (sym c.if-not-sound-block.ensures))))
+pub returns-then-not-sound_block : goal.returns-then-not-sound_block
+returns-then-not-sound_block c =
+    sym (c.loop-k.invariant ∙ notarized_stop (model c.args.plan.now) c.args.self.now (stored c.args.pool.now) c.loop-k.k c.loop-k.b.value c.loop-k-test.true (inr (inr (sym c.if-not-sound_block.ensures))))
 
 pub loop-k-preserved : goal.loop-k-preserved
 loop-k-preserved c =
     (c.loop-k.invariant ∙ notarized_on (model c.args.plan.now) c.args.self.now (stored c.args.pool.now) c.loop-k.k c.loop-k.b.value c.parent-b.result.value c.loop-k-test.true
-    (sym c.if-not-contains.ensures) (sym c.if-not-contains-2.ensures) (sym c.if-not-sound-block.ensures) c.parent-b.ensures)
+    (sym c.if-not-contains.ensures) (sym c.if-not-contains-2.ensures) (sym c.if-not-sound_block.ensures) c.parent-b.ensures)
 
 pub returns : goal.returns
 returns c =

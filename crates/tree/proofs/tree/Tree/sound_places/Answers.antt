@@ -21,7 +21,7 @@ loop-i-preserved c =
     let p = model c.args.plan.now in
     let low : get_or xs i 0 < p.entries = omega arith in
     c.loop-i.invariant ∙ sound_on p (chain_places c.args.self.now c.args.round c.args.block.value) xs i c.loop-i-test.true
-    (lt-ltb _ _ low) (sym c.if-not-unlike-chain.ensures) (plain p (get_or xs i 0) i xs true c.if-not-unlike.ensures)
+    (lt-ltb _ _ low) (sym c.if-not-unlike_chain.ensures) (plain p (get_or xs i 0) i xs true c.if-not-unlike.ensures)
 
 pub returns-then-x-entries : goal.returns-then-x-entries
 returns-then-x-entries c =
@@ -31,10 +31,10 @@ returns-then-x-entries c =
     let high : p.entries ≤ get_or xs i 0 = omega arith in
     sym (c.loop-i.invariant ∙ sound_stop p (chain_places c.args.self.now c.args.round c.args.block.value) xs i c.loop-i-test.true (inl (le-ltb _ _ high)))
 
-pub returns-then-not-unlike-chain : goal.returns-then-not-unlike-chain
-returns-then-not-unlike-chain c =
+pub returns-then-not-unlike_chain : goal.returns-then-not-unlike_chain
+returns-then-not-unlike_chain c =
     let p = model c.args.plan.now in
-    sym (c.loop-i.invariant ∙ sound_stop p (chain_places c.args.self.now c.args.round c.args.block.value) c.args.places.now c.loop-i.i c.loop-i-test.true (inr (inl (sym c.if-not-unlike-chain.ensures))))
+    sym (c.loop-i.invariant ∙ sound_stop p (chain_places c.args.self.now c.args.round c.args.block.value) c.args.places.now c.loop-i.i c.loop-i-test.true (inr (inl (sym c.if-not-unlike_chain.ensures))))
 
 pub returns-then-not-unlike : goal.returns-then-not-unlike
 returns-then-not-unlike c =

@@ -7,13 +7,13 @@ use Rattle.tree.specs.Blocks.{chain_places, parents, payloads, notarized_in, val
 use Rattle.tree.proofs.WalkSteps.{unlike_stop, unlike_on, unlike_chain_end}
 use Rattle.tree.proofs.tree.Tree.unlike_chain.Goals as goal
 
-pub returns-then-not-unlike-block : goal.returns-then-not-unlike-block
-returns-then-not-unlike-block c =
-    sym (c.loop-k.invariant ∙ unlike_stop (model c.args.plan.now) c.args.self.now c.args.x c.loop-k.k c.loop-k.b.value c.loop-k-test.true c.if-not-unlike-block.ensures)
+pub returns-then-not-unlike_block : goal.returns-then-not-unlike_block
+returns-then-not-unlike_block c =
+    sym (c.loop-k.invariant ∙ unlike_stop (model c.args.plan.now) c.args.self.now c.args.x c.loop-k.k c.loop-k.b.value c.loop-k-test.true c.if-not-unlike_block.ensures)
 
 pub loop-k-preserved : goal.loop-k-preserved
 loop-k-preserved c =
-    (c.loop-k.invariant ∙ unlike_on (model c.args.plan.now) c.args.self.now c.args.x c.loop-k.k c.loop-k.b.value c.parent-b.result.value c.loop-k-test.true c.if-not-unlike-block.ensures c.parent-b.ensures)
+    (c.loop-k.invariant ∙ unlike_on (model c.args.plan.now) c.args.self.now c.args.x c.loop-k.k c.loop-k.b.value c.parent-b.result.value c.loop-k-test.true c.if-not-unlike_block.ensures c.parent-b.ensures)
 
 pub returns : goal.returns
 returns c =

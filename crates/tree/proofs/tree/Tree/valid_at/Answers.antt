@@ -18,14 +18,14 @@ returns-then-not-contains c =
     let up : 0 < c.args.round = omega arith in
     sym (valid_stop (model c.args.plan.now) c.args.self.now (stored c.args.pool.now) c.args.round c.args.block.value up (inl (sym c.if-not-contains.ensures)))
 
-pub returns-then-not-notarized-at : goal.returns-then-not-notarized-at
-returns-then-not-notarized-at c =
+pub returns-then-not-notarized_at : goal.returns-then-not-notarized_at
+returns-then-not-notarized_at c =
     let up : 0 < c.args.round = omega arith in
     let p = model c.args.plan.now in
     let t = c.args.self.now in
     let pool = stored c.args.pool.now in
     sym (valid_stop p t pool c.args.round c.args.block.value up
-    (inr (ap (notarized_in p t pool (c.args.round - 1)) (sym c.parent.ensures) ∙ sym c.if-not-notarized-at.ensures)))
+    (inr (ap (notarized_in p t pool (c.args.round - 1)) (sym c.parent.ensures) ∙ sym c.if-not-notarized_at.ensures)))
 
 pub returns : goal.returns
 returns c =
@@ -33,5 +33,5 @@ returns c =
     let p = model c.args.plan.now in
     let t = c.args.self.now in
     let pool = stored c.args.pool.now in
-    c.sound-block.ensures ∙ sym (valid_on p t pool c.args.round c.args.block.value up (sym c.if-not-contains.ensures)
-    (ap (notarized_in p t pool (c.args.round - 1)) (sym c.parent.ensures) ∙ sym c.if-not-notarized-at.ensures))
+    c.sound_block.ensures ∙ sym (valid_on p t pool c.args.round c.args.block.value up (sym c.if-not-contains.ensures)
+    (ap (notarized_in p t pool (c.args.round - 1)) (sym c.parent.ensures) ∙ sym c.if-not-notarized_at.ensures))
