@@ -28,8 +28,8 @@ use Rattle.hall.proofs.Updates.{written, arrived_at, quietly}
 use Rattle.hall.proofs.Steps.{seat_found, seat_missed, block_found, block_missed, message_found, message_missed, refuses, accepts_call, decided}
 use Rattle.hall.proofs.hall.Hall.deliver.Goals as goal
 
-pub returns-in-err-who : goal.returns-in-err-who
-returns-in-err-who g c =
+pub returns-in_err-who : goal.returns-in_err-who
+returns-in_err-who g c =
     let h = c.args.self.now in
     let held = g.B.SealView.held in
     let p = model h.plan in
@@ -38,12 +38,12 @@ returns-in-err-who g c =
     let kind = c.args.kind in
     let by = c.args.signer in
     let x = c.args.subject in
-    let q = err_from_is_err_and c.from-residual.result c.from-residual.ensures.1 in
+    let q = err_from_is_err_and c.from_residual.result c.from_residual.ensures.1 in
     subst (λ (r : Result (Unit {0}) HallFault). Called held h h (deliver s kind by x) (answer s x r)) (sym (q.1 ∙ ap Err q.2))
-    (refuses held h (deliver s kind by x) h s x c.in-err-who.field-0.0 refl (seat_missed p (honest p s) s x c.in-err-who.field-0.0 (drop 2 (checks p w (deliver s kind by x))) c.in-err-who.ensures) refl)
+    (refuses held h (deliver s kind by x) h s x c.in_err-who.field-0.0 refl (seat_missed p (honest p s) s x c.in_err-who.field-0.0 (drop 2 (checks p w (deliver s kind by x))) c.in_err-who.ensures) refl)
 
-pub returns-in-err-m : goal.returns-in-err-m
-returns-in-err-m g c =
+pub returns-in_err-m : goal.returns-in_err-m
+returns-in_err-m g c =
     let h = c.args.self.now in
     let held = g.B.SealView.held in
     let p = model h.plan in
@@ -52,10 +52,10 @@ returns-in-err-m g c =
     let kind = c.args.kind in
     let by = c.args.signer in
     let x = c.args.subject in
-    let seat_ok = seat_found p (honest p s) s x c.in-ok-who.who.value (drop 2 (checks p w (deliver s kind by x))) c.in-ok-who.ensures in
-    let q = err_from_is_err_and c.from-residual-in-err-m.result c.from-residual-in-err-m.ensures.1 in
+    let seat_ok = seat_found p (honest p s) s x c.in_ok-who.who.value (drop 2 (checks p w (deliver s kind by x))) c.in_ok-who.ensures in
+    let q = err_from_is_err_and c.from_residual-in_err-m.result c.from_residual-in_err-m.ensures.1 in
     subst (λ (r : Result (Unit {0}) HallFault). Called held h h (deliver s kind by x) (answer s x r)) (sym (q.1 ∙ ap Err q.2))
-    (refuses held h (deliver s kind by x) h s x c.in-err-m.field-0.0 refl ((message_missed p w s kind by x c.in-err-m.field-0.0 (drop 3 (checks p w (deliver s kind by x))) c.in-err-m.ensures).1 ∙ sym seat_ok.1.1) refl)
+    (refuses held h (deliver s kind by x) h s x c.in_err-m.field-0.0 refl ((message_missed p w s kind by x c.in_err-m.field-0.0 (drop 3 (checks p w (deliver s kind by x))) c.in_err-m.ensures).1 ∙ sym seat_ok.1.1) refl)
 
 pub returns-then-not-exists : goal.returns-then-not-exists
 returns-then-not-exists g c =
@@ -67,8 +67,8 @@ returns-then-not-exists g c =
     let kind = c.args.kind in
     let by = c.args.signer in
     let x = c.args.subject in
-    let seat_ok = seat_found p (honest p s) s x c.in-ok-who.who.value (drop 2 (checks p w (deliver s kind by x))) c.in-ok-who.ensures in
-    let message_ok = message_found p w s kind by x (means c.in-ok-m.m) (drop 3 (checks p w (deliver s kind by x))) c.in-ok-m.ensures in
+    let seat_ok = seat_found p (honest p s) s x c.in_ok-who.who.value (drop 2 (checks p w (deliver s kind by x))) c.in_ok-who.ensures in
+    let message_ok = message_found p w s kind by x (means c.in_ok-m.m) (drop 3 (checks p w (deliver s kind by x))) c.in_ok-m.ensures in
     let gone : exists p w (message kind by x) ≡ false = ap (exists p w) (sym message_ok.0) ∙ sym c.if-not-exists.ensures in
     refuses held h (deliver s kind by x) h s x NoMessage refl
     (sym (seat_ok.1.1 ∙ message_ok.1.1 ∙ ap (λ (b : Bool). cond b accepted (refused 22 3 s x)) gone)) refl
@@ -83,8 +83,8 @@ returns g c =
     let kind = c.args.kind in
     let by = c.args.signer in
     let x = c.args.subject in
-    let seat_ok = seat_found p (honest p s) s x c.in-ok-who.who.value (drop 2 (checks p w (deliver s kind by x))) c.in-ok-who.ensures in
-    let message_ok = message_found p w s kind by x (means c.in-ok-m.m) (drop 3 (checks p w (deliver s kind by x))) c.in-ok-m.ensures in
+    let seat_ok = seat_found p (honest p s) s x c.in_ok-who.who.value (drop 2 (checks p w (deliver s kind by x))) c.in_ok-who.ensures in
+    let message_ok = message_found p w s kind by x (means c.in_ok-m.m) (drop 3 (checks p w (deliver s kind by x))) c.in_ok-m.ensures in
     let there : exists p w (message kind by x) ≡ true = ap (exists p w) (sym message_ok.0) ∙ sym c.if-not-exists.ensures in
     let i = c.value.result in
     let at = c.value.ensures.same ∙ seat_ok.0 in

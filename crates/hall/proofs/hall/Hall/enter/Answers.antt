@@ -19,32 +19,32 @@ use Rattle.hall.specs.Answers.{Called}
 use Rattle.hall.proofs.Steps.{seat_found, seat_missed, block_found, block_missed, refuses, rule_refused, rule_accepted}
 use Rattle.hall.proofs.hall.Hall.enter.Goals as goal
 
-pub returns-in-err-who : goal.returns-in-err-who
-returns-in-err-who g c =
+pub returns-in_err-who : goal.returns-in_err-who
+returns-in_err-who g c =
     let h = c.args.self.now in
     let held = g.B.SealView.held in
     let p = model h.plan in
     let w = world held h in
     let s = c.args.seat in
-    let q = err_from_is_err_and c.from-residual.result c.from-residual.ensures.1 in
+    let q = err_from_is_err_and c.from_residual.result c.from_residual.ensures.1 in
     subst (λ (r : Result (Unit {0}) HallFault). Called held h h (enter s) (answer s 0 r)) (sym (q.1 ∙ ap Err q.2))
-    (refuses held h (enter s) h s 0 c.in-err-who.field-0.0 refl (seat_missed p (honest p s) s 0 c.in-err-who.field-0.0 (drop 2 (checks p w (enter s))) c.in-err-who.ensures) refl)
+    (refuses held h (enter s) h s 0 c.in_err-who.field-0.0 refl (seat_missed p (honest p s) s 0 c.in_err-who.field-0.0 (drop 2 (checks p w (enter s))) c.in_err-who.ensures) refl)
 
-pub returns-in-err-outgoing : goal.returns-in-err-outgoing
-returns-in-err-outgoing g c =
+pub returns-in_err-outgoing : goal.returns-in_err-outgoing
+returns-in_err-outgoing g c =
     let h = c.args.self.now in
     let held = g.B.SealView.held in
     let p = model h.plan in
     let w = world held h in
     let s = c.args.seat in
-    let seat_ok = seat_found p (honest p s) s 0 c.in-ok-who.who.value (drop 2 (checks p w (enter s))) c.in-ok-who.ensures in
+    let seat_ok = seat_found p (honest p s) s 0 c.in_ok-who.who.value (drop 2 (checks p w (enter s))) c.in_ok-who.ensures in
     let past : verdict p w (enter s) ≡ verdict_past 2 p w (enter s) = seat_ok.1.1 in
-    let h₁ = c.run-enter.new.self in
-    let refusal : Result Outgoing SeatFault = Err c.in-err-outgoing.field-0.0 in
-    let ran = subst (λ (i : ℕ). Ran held 2 h h₁ (enter i) (told i 0 refusal) (sent refusal)) seat_ok.0 c.in-err-outgoing.ensures in
-    let q = err_from_is_err_and c.from-residual-in-err-outgoing.result c.from-residual-in-err-outgoing.ensures.1 in
+    let h₁ = c.run_enter.new.self in
+    let refusal : Result Outgoing SeatFault = Err c.in_err-outgoing.field-0.0 in
+    let ran = subst (λ (i : ℕ). Ran held 2 h h₁ (enter i) (told i 0 refusal) (sent refusal)) seat_ok.0 c.in_err-outgoing.ensures in
+    let q = err_from_is_err_and c.from_residual-in_err-outgoing.result c.from_residual-in_err-outgoing.ensures.1 in
     subst (λ (r : Result (Unit {0}) HallFault). Called held h h₁ (enter s) (answer s 0 r)) (sym (q.1 ∙ ap Err q.2))
-    (rule_refused held h (enter s) 2 past h₁ s 0 c.in-err-outgoing.field-0.0 ran)
+    (rule_refused held h (enter s) 2 past h₁ s 0 c.in_err-outgoing.field-0.0 ran)
 
 pub returns : goal.returns
 returns g c =
@@ -53,10 +53,10 @@ returns g c =
     let p = model h.plan in
     let w = world held h in
     let s = c.args.seat in
-    let seat_ok = seat_found p (honest p s) s 0 c.in-ok-who.who.value (drop 2 (checks p w (enter s))) c.in-ok-who.ensures in
+    let seat_ok = seat_found p (honest p s) s 0 c.in_ok-who.who.value (drop 2 (checks p w (enter s))) c.in_ok-who.ensures in
     let past : verdict p w (enter s) ≡ verdict_past 2 p w (enter s) = seat_ok.1.1 in
-    let h₁ = c.run-enter.new.self in
-    let done : Result Outgoing SeatFault = Ok c.in-ok-outgoing.outgoing in
-    let ran = subst (λ (i : ℕ). Ran held 2 h h₁ (enter i) (told i 0 done) (sent done)) seat_ok.0 c.in-ok-outgoing.ensures in
-    rule_accepted held h (enter s) 2 past h₁ c.post.new.self (listed c.in-ok-outgoing.outgoing) ran c.post.ensures.plan
-    (c.post.ensures.world ∙ ap (λ (k : ℕ). posting k (listed c.in-ok-outgoing.outgoing) (world held h₁)) seat_ok.0) refl
+    let h₁ = c.run_enter.new.self in
+    let done : Result Outgoing SeatFault = Ok c.in_ok-outgoing.outgoing in
+    let ran = subst (λ (i : ℕ). Ran held 2 h h₁ (enter i) (told i 0 done) (sent done)) seat_ok.0 c.in_ok-outgoing.ensures in
+    rule_accepted held h (enter s) 2 past h₁ c.post.new.self (listed c.in_ok-outgoing.outgoing) ran c.post.ensures.plan
+    (c.post.ensures.world ∙ ap (λ (k : ℕ). posting k (listed c.in_ok-outgoing.outgoing) (world held h₁)) seat_ok.0) refl

@@ -31,8 +31,8 @@ use Rattle.tree.specs.Payloads.{listed}
 use Rattle.model.proofs.Searches.{find, none_more}
 use Rattle.hall.proofs.hall.Hall.forged_before.Goals as goal
 
-pub returns-then-is-forged : goal.returns-then-is-forged
-returns-then-is-forged g c =
+pub returns-then-is_forged : goal.returns-then-is_forged
+returns-then-is_forged g c =
     let h = c.args.self.now in
     let p = model h.plan in
     let k = c.args.round.value in
@@ -40,7 +40,7 @@ returns-then-is-forged g c =
     let f : ℕ → Bool = λ v. mades h.tree (number p k s v) && (eqb (parents h.tree (number p k s v)) c.args.parent.value && same_list (payloads h.tree (number p k s v)) (listed c.args.payload.now)) in
     let v = c.loop-variant.variant in
     let at : min v 2 ≡ v = omega (arith, c.loop-variant-test.true) in
-    sym (find f 3 v c.loop-variant-test.true (ap f (sym at) ∙ sym c.if-is-forged.ensures))
+    sym (find f 3 v c.loop-variant-test.true (ap f (sym at) ∙ sym c.if-is_forged.ensures))
 
 pub loop-variant-preserved : goal.loop-variant-preserved
 loop-variant-preserved g c =
@@ -51,7 +51,7 @@ loop-variant-preserved g c =
     let f : ℕ → Bool = λ v. mades h.tree (number p k s v) && (eqb (parents h.tree (number p k s v)) c.args.parent.value && same_list (payloads h.tree (number p k s v)) (listed c.args.payload.now)) in
     let v = c.loop-variant.variant in
     let at : min v 2 ≡ v = omega (arith, c.loop-variant-test.true) in
-    none_more f v c.loop-variant.invariant (ap f (sym at) ∙ sym c.if-is-forged.ensures)
+    none_more f v c.loop-variant.invariant (ap f (sym at) ∙ sym c.if-is_forged.ensures)
 
 pub returns : goal.returns
 returns g c =

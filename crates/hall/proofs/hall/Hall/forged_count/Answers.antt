@@ -29,10 +29,10 @@ use Rattle.hall.proofs.Steps.{seat_found, seat_missed, block_found, block_missed
 use Rattle.basics.specs.Count.{tally}
 use Rattle.basics.proofs.CountLaws.{tally_le}
 use Rattle.hall.proofs.hall.Hall.forged_count.Goals as goal
-use Rattle.hall.proofs.hall.Hall.forged_count.Goals.{then-is-made, else-is-made}
+use Rattle.hall.proofs.hall.Hall.forged_count.Goals.{then-is_made, else-is_made}
 
-pub overflow-add-count : goal.overflow-add-count
-overflow-add-count g c =
+pub overflow_add-count : goal.overflow_add-count
+overflow_add-count g c =
     let h = c.args.self.now in
     let f : ℕ → Bool = λ v. mades h.tree (number (model h.plan) c.args.round.value c.args.who.value v) in
     omega (arith, c.loop-variant.invariant, tally_le f c.loop-variant.variant, c.loop-variant-test.true)
@@ -46,9 +46,9 @@ loop-variant-preserved g c =
     let block : c.number-block.result.value ≡ number (model h.plan) c.args.round.value c.args.who.value v =
     c.number-block.ensures ∙ ap (number (model h.plan) c.args.round.value c.args.who.value) at in
     let step : tally f (v + 1) ≡ tally f v + cond (f v) 1 0 = ap (tally f) (add-one v) in
-    elim c.if-is-made.branch [
-      | then-is-made w ↦ (let y : cond {A = ℕ} (f v) 1 0 ≡ 1 = ap (λ b. cond {A = ℕ} b 1 0) (ap (mades h.tree) (sym block) ∙ sym w.if-is-made.ensures) in omega (arith, w.count-is, step, y, c.loop-variant.invariant))
-      | else-is-made w ↦ (let n : cond {A = ℕ} (f v) 1 0 ≡ 0 = ap (λ b. cond {A = ℕ} b 1 0) (ap (mades h.tree) (sym block) ∙ sym w.if-is-made.ensures) in omega (arith, w.count-is, step, n, c.loop-variant.invariant))
+    elim c.if-is_made.branch [
+      | then-is_made w ↦ (let y : cond {A = ℕ} (f v) 1 0 ≡ 1 = ap (λ b. cond {A = ℕ} b 1 0) (ap (mades h.tree) (sym block) ∙ sym w.if-is_made.ensures) in omega (arith, w.count-is, step, y, c.loop-variant.invariant))
+      | else-is_made w ↦ (let n : cond {A = ℕ} (f v) 1 0 ≡ 0 = ap (λ b. cond {A = ℕ} b 1 0) (ap (mades h.tree) (sym block) ∙ sym w.if-is_made.ensures) in omega (arith, w.count-is, step, n, c.loop-variant.invariant))
     ]
 
 pub returns : goal.returns

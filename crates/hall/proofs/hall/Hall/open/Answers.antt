@@ -28,8 +28,8 @@ loop-seat-preserved g c =
     let p = model c.args.plan in
     let i = c.loop-seat.seat in
     let inv = c.loop-seat.invariant in (
-      c.share-first-beacon.ensures.plan ∙ inv.0,
-      c.share-first-beacon.ensures.world
+      c.share_first_beacon.ensures.plan ∙ inv.0,
+      c.share_first_beacon.ensures.world
           ∙ ap (λ (x : Plan). cond (honest (model x) i) (sharing i (world g.B.SealView.held c.loop-seat.hall)) (world g.B.SealView.held c.loop-seat.hall)) inv.0
           ∙ ap (λ (w : World). cond (honest p i) (sharing i w) w) inv.1
           ∙ opening_next p i,

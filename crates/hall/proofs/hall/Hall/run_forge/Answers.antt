@@ -42,14 +42,14 @@ returns g c =
     let par = c.args.parent.value in
     let xs = listed c.args.payload in
     let call = forge s k par xs in
-    let below : eqb (round_of p par + 1) k ≡ true = eq-eqb _ _ (ap (λ (r : ℕ). r + 1) (sym c.round-of.ensures.is) ∙ c.if-round-of-value.false ∙ c.value.ensures.same) in
-    let new : forged_before p w s k par xs ≡ false = sym c.if-forged-before.ensures in
-    let few : made_in p w s k < 3 = subst (λ (n : ℕ). n < 3) c.forged-count-variant.ensures c.if-variant-ge3.false in
+    let below : eqb (round_of p par + 1) k ≡ true = eq-eqb _ _ (ap (λ (r : ℕ). r + 1) (sym c.round_of.ensures.is) ∙ c.if-round_of-value.false ∙ c.value.ensures.same) in
+    let new : forged_before p w s k par xs ≡ false = sym c.if-forged_before.ensures in
+    let few : made_in p w s k < 3 = subst (λ (n : ℕ). n < 3) c.forged_count-variant.ensures c.if-variant-ge3.false in
     let said : accepted ≡ verdict_past 3 p w call =
     sym ((λ i. cond (below i) (cond (not (new i)) (cond (ltb (made_in p w s k) 3) accepted (refused 15 3 s par)) (refused 16 3 s par)) (refused 17 3 s par))
     ∙ cond-true (ltb (made_in p w s k) 3) accepted (refused 15 3 s par) (lt-ltb _ _ few)) in
     let b : c.number-block.result.value ≡ forgery p w s k =
-    let v : min c.forged-count-variant.result 2 ≡ made_in p w s k = omega (arith, c.forged-count-variant.ensures, c.if-variant-ge3.false) in
+    let v : min c.forged_count-variant.result 2 ≡ made_in p w s k = omega (arith, c.forged_count-variant.ensures, c.if-variant-ge3.false) in
     c.number-block.ensures ∙ ap (number p k s) v in
     let m = c.make.ensures in
     record {

@@ -31,8 +31,8 @@ use Rattle.seats.proofs.Posting.{added_one}
 use Rattle.hall.proofs.Sealings.{wrong_kind, no_such, sealable, sealable_allowed}
 use Rattle.hall.proofs.hall.Hall.seal.Goals as goal
 
-pub returns-in-err--who : goal.returns-in-err--who
-returns-in-err--who g c =
+pub returns-in_err-_who : goal.returns-in_err-_who
+returns-in_err-_who g c =
     let h = c.args.self.now in
     let held = g.B.SealView.held in
     let p = model h.plan in
@@ -40,12 +40,12 @@ returns-in-err--who g c =
     let s = c.args.seat in
     let kind = c.args.kind in
     let x = c.args.subject in
-    let q = err_from_is_err_and c.from-residual.result c.from-residual.ensures.1 in
+    let q = err_from_is_err_and c.from_residual.result c.from_residual.ensures.1 in
     subst (λ (r : Result (Unit {0}) HallFault). Called held h h (seal s kind x) (answer s x r)) (sym (q.1 ∙ ap Err q.2))
-    (refuses held h (seal s kind x) h s x c.in-err--who.field-0.0 refl (seat_missed p (not (honest p s)) s x c.in-err--who.field-0.0 (drop 2 (checks p w (seal s kind x))) c.in-err--who.ensures) refl)
+    (refuses held h (seal s kind x) h s x c.in_err-_who.field-0.0 refl (seat_missed p (not (honest p s)) s x c.in_err-_who.field-0.0 (drop 2 (checks p w (seal s kind x))) c.in_err-_who.ensures) refl)
 
-pub returns-then-not-is-share-kind : goal.returns-then-not-is-share-kind
-returns-then-not-is-share-kind g c =
+pub returns-then-not-is_share_kind : goal.returns-then-not-is_share_kind
+returns-then-not-is_share_kind g c =
     let h = c.args.self.now in
     let held = g.B.SealView.held in
     let p = model h.plan in
@@ -53,11 +53,11 @@ returns-then-not-is-share-kind g c =
     let s = c.args.seat in
     let kind = c.args.kind in
     let x = c.args.subject in
-    let seat_ok = seat_found p (not (honest p s)) s x c.in-ok--who.-who.value (drop 2 (checks p w (seal s kind x))) c.in-ok--who.ensures in
-    refuses held h (seal s kind x) h s x OutOfRange refl (wrong_kind p w s kind x (drop 3 (checks p w (seal s kind x))) (sym c.if-not-is-share-kind.ensures) ∙ sym seat_ok.1.1) refl
+    let seat_ok = seat_found p (not (honest p s)) s x c.in_ok-_who._who.value (drop 2 (checks p w (seal s kind x))) c.in_ok-_who.ensures in
+    refuses held h (seal s kind x) h s x OutOfRange refl (wrong_kind p w s kind x (drop 3 (checks p w (seal s kind x))) (sym c.if-not-is_share_kind.ensures) ∙ sym seat_ok.1.1) refl
 
-pub returns-in-err--m : goal.returns-in-err--m
-returns-in-err--m g c =
+pub returns-in_err-_m : goal.returns-in_err-_m
+returns-in_err-_m g c =
     let h = c.args.self.now in
     let held = g.B.SealView.held in
     let p = model h.plan in
@@ -65,10 +65,10 @@ returns-in-err--m g c =
     let s = c.args.seat in
     let kind = c.args.kind in
     let x = c.args.subject in
-    let seat_ok = seat_found p (not (honest p s)) s x c.in-ok--who.-who.value (drop 2 (checks p w (seal s kind x))) c.in-ok--who.ensures in
-    let q = err_from_is_err_and c.from-residual-in-err--m.result c.from-residual-in-err--m.ensures.1 in
+    let seat_ok = seat_found p (not (honest p s)) s x c.in_ok-_who._who.value (drop 2 (checks p w (seal s kind x))) c.in_ok-_who.ensures in
+    let q = err_from_is_err_and c.from_residual-in_err-_m.result c.from_residual-in_err-_m.ensures.1 in
     subst (λ (r : Result (Unit {0}) HallFault). Called held h h (seal s kind x) (answer s x r)) (sym (q.1 ∙ ap Err q.2))
-    (refuses held h (seal s kind x) h s x c.in-err--m.field-0.0 refl (no_such p w s kind x (drop 3 (checks p w (seal s kind x))) c.in-err--m.field-0.0 c.in-err--m.ensures ∙ sym seat_ok.1.1) refl)
+    (refuses held h (seal s kind x) h s x c.in_err-_m.field-0.0 refl (no_such p w s kind x (drop 3 (checks p w (seal s kind x))) c.in_err-_m.field-0.0 c.in_err-_m.ensures ∙ sym seat_ok.1.1) refl)
 
 pub returns-then-asked : goal.returns-then-asked
 returns-then-asked g c =
@@ -79,9 +79,9 @@ returns-then-asked g c =
     let s = c.args.seat in
     let kind = c.args.kind in
     let x = c.args.subject in
-    let seat_ok = seat_found p (not (honest p s)) s x c.in-ok--who.-who.value (drop 2 (checks p w (seal s kind x))) c.in-ok--who.ensures in
-    let message_ok = message_found p w s kind s x (means c.in-ok--m.-m) (drop 3 (checks p w (seal s kind x))) c.in-ok--m.ensures in
-    let fit : (eqb kind 2 || (eqb kind 4 || eqb kind 6)) ≡ true = sym c.if-not-is-share-kind.ensures in
+    let seat_ok = seat_found p (not (honest p s)) s x c.in_ok-_who._who.value (drop 2 (checks p w (seal s kind x))) c.in_ok-_who.ensures in
+    let message_ok = message_found p w s kind s x (means c.in_ok-_m._m) (drop 3 (checks p w (seal s kind x))) c.in_ok-_m.ensures in
+    let fit : (eqb kind 2 || (eqb kind 4 || eqb kind 6)) ≡ true = sym c.if-not-is_share_kind.ensures in
     let there : w.sealed kind s x ≡ true = sym c.if-asked.ensures in
     refuses held h (seal s kind x) h s x Repeated refl
     (sym (seat_ok.1.1 ∙ sealable p w s kind x (drop 3 (checks p w (seal s kind x))) fit message_ok.1.0 ∙ ap (λ (b : Bool). cond (not b) accepted (refused 16 3 s x)) there)) refl
@@ -95,9 +95,9 @@ returns g c =
     let s = c.args.seat in
     let kind = c.args.kind in
     let x = c.args.subject in
-    let seat_ok = seat_found p (not (honest p s)) s x c.in-ok--who.-who.value (drop 2 (checks p w (seal s kind x))) c.in-ok--who.ensures in
-    let message_ok = message_found p w s kind s x (means c.in-ok--m.-m) (drop 3 (checks p w (seal s kind x))) c.in-ok--m.ensures in
-    let fit : (eqb kind 2 || (eqb kind 4 || eqb kind 6)) ≡ true = sym c.if-not-is-share-kind.ensures in
+    let seat_ok = seat_found p (not (honest p s)) s x c.in_ok-_who._who.value (drop 2 (checks p w (seal s kind x))) c.in_ok-_who.ensures in
+    let message_ok = message_found p w s kind s x (means c.in_ok-_m._m) (drop 3 (checks p w (seal s kind x))) c.in_ok-_m.ensures in
+    let fit : (eqb kind 2 || (eqb kind 4 || eqb kind 6)) ≡ true = sym c.if-not-is_share_kind.ensures in
     let gone : w.sealed kind s x ≡ false = sym c.if-asked.ensures in
     let more = c.seal.ensures.after ∙ added_one kind s x w.sealed (sealable_allowed h.plan w s kind x fit message_ok.1.0) in
     accepts_call held h (seal s kind x) (record { plan = h.plan; tree = h.tree; seats = h.seats; broadcast = h.broadcast; book = c.seal.new.self }) refl

@@ -4,8 +4,8 @@ use Rattle.basics.proofs.CountLaws.{tally_le}
 use Rattle.hall.proofs.hall.Hall.sealed_count.Goals as goal
 use Rattle.hall.proofs.hall.Hall.sealed_count.Goals.{then-asked, else-asked}
 
-pub overflow-add-count : goal.overflow-add-count
-overflow-add-count g c =
+pub overflow_add-count : goal.overflow_add-count
+overflow_add-count g c =
     let f : ℕ → Bool = λ s. g.B.SealView.held c.args.self.now.book c.args.kind s c.args.subject in
     omega (arith, c.loop-seat.invariant, tally_le f c.loop-seat.seat, c.loop-seat-test.true, c.seats-seat-end.ensures.few)
 

@@ -30,7 +30,7 @@ returns g c =
     let long : s < length h.seats = search rules in
     let here : get_or h.seats s c.index-self-seat.result ≡ get_or h.seats s no_seat =
     sym c.index-self-seat.is ∙ get_or_read h.seats s c.index-self-seat.result long c.index-self-seat.is no_seat in
-    let good : honest p s ≡ true = ap (honest p) (sym who) ∙ sym c.if-not-is-honest.ensures in
+    let good : honest p s ≡ true = ap (honest p) (sym who) ∙ sym c.if-not-is_honest.ensures in
     let ms : List Said = beacon_share s 1 ∷ [] in
     let in_pool : pooled c.receive.new.self ≡ with_all ms (pooled (get_or h.seats s no_seat)) =
     c.receive.ensures.pool ∙ ap₂ (λ (x : Said) (y : Seat). joined x (pooled y)) is here ∙ joined_one (beacon_share s 1) (pooled (get_or h.seats s no_seat)) in

@@ -12,7 +12,7 @@ returns g c =
     let s = c.args.seat in
     let low : s < h.plan.seats = omega (arith, c.seats.ensures.is, c.if-seat-seats.false) in
     let index : c.capped-index.result.value ≡ s = omega (arith, c.capped-index.ensures, h.plan.few) in
-    let good : honest (model h.plan) s ≡ true = ap (honest (model h.plan)) (sym index) ∙ sym c.if-not-is-honest.ensures in (
+    let good : honest (model h.plan) s ≡ true = ap (honest (model h.plan)) (sym index) ∙ sym c.if-not-is_honest.ensures in (
       and_from (ltb s h.plan.seats) (honest (model h.plan) s) (lt-ltb _ _ low) good,
-      subst (λ (k : ℕ). Stands c.standing-in.result ((world g.B.SealView.held h).seat k)) index c.standing-in.ensures,
+      subst (λ (k : ℕ). Stands c.standing_in.result ((world g.B.SealView.held h).seat k)) index c.standing_in.ensures,
     )
