@@ -13,9 +13,9 @@ pub loop-i-preserved : goal.loop-i-preserved
 loop-i-preserved g c =
     let xs = c.args.calls.now in
     let i = c.loop-i.i in (
-      c.perform-one.ensures.plan_stays ∙ c.loop-i.invariant.0,
-      one_more_at g.B.SealView.held c.args.hall.now c.loop-i.hall c.perform-one.new.hall xs i _ _ _ c.loop-i-test.true
-          c.perform-one.ensures c.loop-i.invariant.0 c.loop-i.invariant.1,
+      c.perform_one.ensures.plan_stays ∙ c.loop-i.invariant.0,
+      one_more_at g.B.SealView.held c.args.hall.now c.loop-i.hall c.perform_one.new.hall xs i _ _ _ c.loop-i-test.true
+          c.perform_one.ensures c.loop-i.invariant.0 c.loop-i.invariant.1,
     )
 
 pub returns : goal.returns

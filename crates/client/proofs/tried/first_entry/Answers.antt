@@ -31,12 +31,12 @@ returns g c =
     let R = c.args.draw.rounds in
     let xs = c.args.labels.now in
     let fresh = fresh_plan n R (mirrored n) 0 0 0 in
-    let p = model c.in-ok-plan.plan in
+    let p = model c.in_ok-plan.plan in
     let q = labelled n R xs in
     let drawn : p ≡ fresh =
-    ap (plan_or fresh) c.in-ok-plan.ensures ∙ ap (λ b. plan_or fresh (cond b (Ok fresh) (Err TooFewSeats))) (le-leb 1 n c.args.draw.some) in
-    let took : model c.set-entries.new.self ≡ q =
-    c.set-entries.ensures.plan
-    ∙ taken_then (leb (length xs) 128) (with_entries labels_alike xs p) p c.in-ok-set-entries.ensures.answer
+    ap (plan_or fresh) c.in_ok-plan.ensures ∙ ap (λ b. plan_or fresh (cond b (Ok fresh) (Err TooFewSeats))) (le-leb 1 n c.args.draw.some) in
+    let took : model c.set_entries.new.self ≡ q =
+    c.set_entries.ensures.plan
+    ∙ taken_then (leb (length xs) 128) (with_entries labels_alike xs p) p c.in_ok-set_entries.ensures.answer
     ∙ ap (with_entries labels_alike xs) drawn in
     entered_first _ _ c.open-hall.result c.enter.new.self c.enter.result n R xs took c.open-hall.ensures c.enter.ensures

@@ -21,10 +21,10 @@ loop-sort-preserved-in-Entry c =
     let f = c.decode.ensures ∙ ap decoded c.bytes.ensures in (
       (λ p. entry_line sort p es (line_now x + 1) (line_now y) fs (behind x) (decoded (held y)) (behind y)
           (collected sort p (contents c.args.entries.now) (line_now c.args.reader.now + 1) (contents c.args.refusals.now) (behind c.args.reader.now))
-          (c.loop-sort.invariant.0 p) (ap (map decoded) next.line_is) next.counts c.in-Entry.entry (contents c.take-entry.new.entries) (contents c.take-entry.new.refusals)
-          (c.in-Entry.ensures ∙ ap (placed sort) f) c.take-entry.ensures.entries (c.take-entry.ensures.refusals ∙ ap (λ i. entry_refusals es i fs) c.line-line.ensures)),
-      c.take-entry.ensures.some,
-      c.take-entry.ensures.many,
+          (c.loop-sort.invariant.0 p) (ap (map decoded) next.line_is) next.counts c.in-Entry.entry (contents c.take_entry.new.entries) (contents c.take_entry.new.refusals)
+          (c.in-Entry.ensures ∙ ap (placed sort) f) c.take_entry.ensures.entries (c.take_entry.ensures.refusals ∙ ap (λ i. entry_refusals es i fs) c.line-line.ensures)),
+      c.take_entry.ensures.some,
+      c.take_entry.ensures.many,
     )
 
 pub returns-in-Closes : goal.returns-in-Closes
@@ -52,7 +52,7 @@ loop-sort-preserved c =
     let next = c.loop-sort-test.ensures in
     let f = c.decode.ensures ∙ ap decoded c.bytes.ensures in
     let all_listed : contents c.push.new.self ≡ also fs (refusal c.line-line.result Malformed) =
-    c.push.ensures.after ∙ ap (λ f. cond c.push.result (fs ++ f ∷ []) fs) c.refused-at.ensures ∙ ap (λ b. cond b (fs ++ refusal c.line-line.result Malformed ∷ []) fs) (c.push.ensures.answer ∙ ap (ltb (length fs)) c.loop-sort.invariant.1) in (
+    c.push.ensures.after ∙ ap (λ f. cond c.push.result (fs ++ f ∷ []) fs) c.refused_at.ensures ∙ ap (λ b. cond b (fs ++ refusal c.line-line.result Malformed ∷ []) fs) (c.push.ensures.answer ∙ ap (ltb (length fs)) c.loop-sort.invariant.1) in (
       (λ p. misplaced_line sort p (contents c.loop-sort.entries) (line_now x + 1) (line_now y) fs (behind x) (decoded (held y)) (behind y)
           (collected sort p (contents c.args.entries.now) (line_now c.args.reader.now + 1) (contents c.args.refusals.now) (behind c.args.reader.now))
           (c.loop-sort.invariant.0 p) (ap (map decoded) next.line_is) next.counts (contents c.push.new.self)

@@ -13,7 +13,7 @@ use Rattle.page.proofs.LineLaws.{first_line, begun_refused}
 use Rattle.page.proofs.examine.read_plan.Goals as goal
 
 pub returns-then-not-advance : goal.returns-then-not-advance
-returns-then-not-advance c = ap (λ ls. run c.args.sort (map decoded ls)) c.if-not-advance.ensures.line_is ∙ ap only (sym c.refused-at.ensures)
+returns-then-not-advance c = ap (λ ls. run c.args.sort (map decoded ls)) c.if-not-advance.ensures.line_is ∙ ap only (sym c.refused_at.ensures)
 
 pub returns-in-Cards : goal.returns-in-Cards
 returns-in-Cards c =

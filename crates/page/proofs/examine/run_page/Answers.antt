@@ -12,9 +12,9 @@ returns-in-Err g c =
     let whole : left c.new-reader.result ≡ s = c.new-reader.ensures.all ∙ take_all 65535 s c.requires.short in
     let all = sym (ap (page c.args.sort) (sym whole) ∙ c.in-Err.ensures) in
     record {
-      bytes = c.put-only.ensures.bytes ∙ ap (λ r. over r c.args.out.now) all;
-      size = c.put-only.ensures.size ∙ ap length all;
-      most = c.put-only.ensures.most;
+      bytes = c.put_only.ensures.bytes ∙ ap (λ r. over r c.args.out.now) all;
+      size = c.put_only.ensures.size ∙ ap length all;
+      most = c.put_only.ensures.most;
     }
 
 pub returns-in-Ok : goal.returns-in-Ok
@@ -23,7 +23,7 @@ returns-in-Ok g c =
     let whole : left c.new-reader.result ≡ s = c.new-reader.ensures.all ∙ take_all 65535 s c.requires.short in
     let all = sym (ap (page c.args.sort) (sym whole) ∙ c.in-Ok.ensures) in
     record {
-      bytes = c.run-hall.ensures.bytes ∙ ap (λ r. over r c.args.out.now) all;
-      size = c.run-hall.ensures.size ∙ ap length all;
-      most = c.run-hall.ensures.most;
+      bytes = c.run_hall.ensures.bytes ∙ ap (λ r. over r c.args.out.now) all;
+      size = c.run_hall.ensures.size ∙ ap length all;
+      most = c.run_hall.ensures.most;
     }

@@ -5,16 +5,16 @@ use Rattle.page.specs.First.{marked, unless_refused, named, then_named, plan_wit
 use Rattle.page.proofs.FirstLaws.{seat_step, seat_end}
 use Rattle.page.proofs.first.plan_with.Goals as goal
 
-pub returns-in-err-name-marked : goal.returns-in-err-name-marked
-returns-in-err-name-marked g c =
+pub returns-in_err-name_marked : goal.returns-in_err-name_marked
+returns-in_err-name_marked g c =
     let d = c.args.draw.now in
     let x = c.args.setup.corrupt in
     let s = c.loop-seat.seat in
     let p = model c.loop-seat.plan in
     let next = named x (16 - (s + 1)) (s + 1) (marked x s p) in
-    let e : plan_with (g.D.Draw.seats d) (g.D.Draw.rounds d) (g.D.Draw.rank d) c.args.setup ≡ Err c.in-err-name-marked.field-0.0 =
-    ap (then_named x) (sym c.in-ok-plan.ensures) ∙ c.loop-seat.invariant ∙ seat_step x s p (omega arith)
-    ∙ ap (λ r. unless_refused r next) (sym c.name-marked.ensures.answer ∙ c.in-err-name-marked.was) in
+    let e : plan_with (g.D.Draw.seats d) (g.D.Draw.rounds d) (g.D.Draw.rank d) c.args.setup ≡ Err c.in_err-name_marked.field-0.0 =
+    ap (then_named x) (sym c.in_ok-plan.ensures) ∙ c.loop-seat.invariant ∙ seat_step x s p (omega arith)
+    ∙ ap (λ r. unless_refused r next) (sym c.name_marked.ensures.answer ∙ c.in_err-name_marked.was) in
     search rules
 
 pub loop-seat-preserved : goal.loop-seat-preserved
@@ -23,10 +23,10 @@ loop-seat-preserved g c =
     let s = c.loop-seat.seat in
     let p = model c.loop-seat.plan in
     c.loop-seat.invariant ∙ seat_step x s p (omega arith)
-    ∙ ap (λ r. unless_refused r (named x (16 - (s + 1)) (s + 1) (marked x s p))) (sym c.name-marked.ensures.answer ∙ c.in-ok-name-marked.was)
-    ∙ ap (named x (16 - (s + 1)) (s + 1)) (sym c.name-marked.ensures.plan)
+    ∙ ap (λ r. unless_refused r (named x (16 - (s + 1)) (s + 1) (marked x s p))) (sym c.name_marked.ensures.answer ∙ c.in_ok-name_marked.was)
+    ∙ ap (named x (16 - (s + 1)) (s + 1)) (sym c.name_marked.ensures.plan)
 
 pub returns : goal.returns
 returns g c =
     let x = c.args.setup.corrupt in
-    sym (ap (then_named x) (sym c.in-ok-plan.ensures) ∙ c.loop-seat.invariant ∙ seat_end x c.loop-seat.seat (model c.loop-seat.plan) c.loop-seat-test.false)
+    sym (ap (then_named x) (sym c.in_ok-plan.ensures) ∙ c.loop-seat.invariant ∙ seat_end x c.loop-seat.seat (model c.loop-seat.plan) c.loop-seat-test.false)

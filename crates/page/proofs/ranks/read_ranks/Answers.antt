@@ -25,7 +25,7 @@ returns-then-not-advance c =
     record {
       all = rows_end p (p.rounds - k) (p.rounds - (k + 1)) k (contents c.loop-k.table) (behind c.loop-k.reader) (rows p p.rounds 0 [] (behind c.args.reader.now)) e c.loop-k.invariant.0
           (ap (map decoded) c.if-not-advance.ensures.line_is)
-          ∙ ap (λ i. only (refusal i Malformed)) j ∙ ap only (sym c.refused-at.ensures);
+          ∙ ap (λ i. only (refusal i Malformed)) j ∙ ap only (sym c.refused_at.ensures);
     }
 
 pub returns-then-ranks-from : goal.returns-then-ranks-from
@@ -39,11 +39,11 @@ returns-then-ranks-from c =
       all = row_short p (p.rounds - k) (p.rounds - (k + 1)) k (contents c.loop-k.table) (behind c.loop-k.reader) (rows p p.rounds 0 [] (behind c.args.reader.now)) e c.loop-k.invariant.0
           (decoded (held y)) (behind y) c.row-ranks.result.now (ap (map decoded) c.if-not-advance.ensures.line_is) (c.row-ranks.ensures ∙ ap row (c.decode.ensures ∙ ap decoded c.bytes.ensures))
           (λ h. c.if-ranks-from.true (h ∙ sym c.seats-n.ensures.is ∙ sym c.from.ensures))
-          ∙ ap (λ i. only (refusal i Malformed)) j ∙ ap only (sym c.refused-at-then-ranks-from.ensures);
+          ∙ ap (λ i. only (refusal i Malformed)) j ∙ ap only (sym c.refused_at-then-ranks-from.ensures);
     }
 
-pub push-all-requires : goal.push-all-requires
-push-all-requires c =
+pub push_all-requires : goal.push_all-requires
+push_all-requires c =
     let k = c.loop-k.k in
     let n = (model c.args.plan.now).n in
     omega (arith, mul-le (k + 1) n 8 13 (omega (arith, c.rounds-rounds.ensures.few)) (omega (arith, c.seats-n.ensures.is, c.seats-n.ensures.few)), add-mul k 1 n, c.loop-k.invariant.2, c.if-ranks-from.false, c.from.ensures, c.seats-n.ensures.is)
@@ -61,13 +61,13 @@ returns-in-Err c =
     let b : in_bounds p.n (k + 1) ≡ true = bounds_fewer p.n p.rounds (k + 1) c.requires.sizes (omega arith) (omega (arith, c.rounds-rounds.ensures.is)) in
     let l : p.n * (k + 1) ≤ length (t ++ xs) = omega (arith, mul_comm p.n (k + 1), add-mul k 1 p.n, length-append t xs, c.loop-k.invariant.2, long) in
     let drawn : Err c.in-Err.fault ≡ table_made p.n (k + 1) (t ++ xs) =
-    c.in-Err.ensures ∙ ap (λ m. table_made m (k + 1) c.as-slice.result.now) c.seats-n.ensures.is ∙ ap (table_made p.n (k + 1)) (c.as-slice.ensures ∙ c.push-all.ensures.all) in
+    c.in-Err.ensures ∙ ap (λ m. table_made m (k + 1) c.as_slice.result.now) c.seats-n.ensures.is ∙ ap (table_made p.n (k + 1)) (c.as_slice.ensures ∙ c.push_all.ensures.all) in
     record {
       all = row_judged p (p.rounds - k) (p.rounds - (k + 1)) k t (behind c.loop-k.reader) (rows p p.rounds 0 [] (behind c.args.reader.now)) e c.loop-k.invariant.0
           (decoded (held y)) (behind y) xs (ap (map decoded) c.if-not-advance.ensures.line_is) (c.row-ranks.ensures ∙ ap row (c.decode.ensures ∙ ap decoded c.bytes.ensures)) long b l
           ∙ ap (by_draw_so_far p (p.rounds - k) (p.rounds - (k + 1)) k t (behind c.loop-k.reader) (rows p p.rounds 0 [] (behind c.args.reader.now)) e c.loop-k.invariant.0
           (decoded (held y)) (behind y) xs (ap (map decoded) c.if-not-advance.ensures.line_is) (c.row-ranks.ensures ∙ ap row (c.decode.ensures ∙ ap decoded c.bytes.ensures))) (sym drawn)
-          ∙ ap (λ i. only (refusal i (Plan (Draw c.in-Err.fault)))) j ∙ ap only (sym c.refused-at-in-Err.ensures);
+          ∙ ap (λ i. only (refusal i (Plan (Draw c.in-Err.fault)))) j ∙ ap only (sym c.refused_at-in-Err.ensures);
     }
 
 pub loop-k-preserved : goal.loop-k-preserved
@@ -82,14 +82,14 @@ loop-k-preserved c =
     let b : in_bounds p.n (k + 1) ≡ true = bounds_fewer p.n p.rounds (k + 1) c.requires.sizes (omega arith) (omega (arith, c.rounds-rounds.ensures.is)) in
     let l : p.n * (k + 1) ≤ length (t ++ xs) = omega (arith, mul_comm p.n (k + 1), add-mul k 1 p.n, length-append t xs, c.loop-k.invariant.2, long) in
     let drawn : table_means (Ok c.in-Ok.field-0) ≡ table_made p.n (k + 1) (t ++ xs) =
-    c.in-Ok.ensures ∙ ap (λ m. table_made m (k + 1) c.as-slice.result.now) c.seats-n.ensures.is ∙ ap (table_made p.n (k + 1)) (c.as-slice.ensures ∙ c.push-all.ensures.all) in
-    let now : contents c.push-all.new.table ≡ t ++ xs = c.push-all.ensures.all in (
+    c.in-Ok.ensures ∙ ap (λ m. table_made m (k + 1) c.as_slice.result.now) c.seats-n.ensures.is ∙ ap (table_made p.n (k + 1)) (c.as_slice.ensures ∙ c.push_all.ensures.all) in
+    let now : contents c.push_all.new.table ≡ t ++ xs = c.push_all.ensures.all in (
       row_judged p (p.rounds - k) (p.rounds - (k + 1)) k t (behind c.loop-k.reader) (rows p p.rounds 0 [] (behind c.args.reader.now)) e c.loop-k.invariant.0
           (decoded (held y)) (behind y) xs (ap (map decoded) c.if-not-advance.ensures.line_is) (c.row-ranks.ensures ∙ ap row (c.decode.ensures ∙ ap decoded c.bytes.ensures)) long b l
           ∙ ap (by_draw_so_far p (p.rounds - k) (p.rounds - (k + 1)) k t (behind c.loop-k.reader) (rows p p.rounds 0 [] (behind c.args.reader.now)) e c.loop-k.invariant.0
           (decoded (held y)) (behind y) xs (ap (map decoded) c.if-not-advance.ensures.line_is) (c.row-ranks.ensures ∙ ap row (c.decode.ensures ∙ ap decoded c.bytes.ensures))) (sym drawn)
           ∙ ap (λ r. rows p (p.rounds - (k + 1)) (k + 1) r (behind y)) (sym now),
-      c.push-all.ensures.space ∙ c.loop-k.invariant.1,
+      c.push_all.ensures.space ∙ c.loop-k.invariant.1,
       omega (arith, ap length now, length-append t xs, c.loop-k.invariant.2, long, add-mul k 1 p.n),
       omega (arith, c.if-not-advance.ensures.counts, c.loop-k.invariant.3),
       λ _. ap (table_made p.n (k + 1)) now ∙ made_is p.n (k + 1) (t ++ xs) (meant c.in-Ok.field-0.n c.in-Ok.field-0.rounds c.in-Ok.field-0.ranks) b l drawn ∙ ap (λ r. Ok (meant p.n (k + 1) r)) (sym now),

@@ -22,12 +22,12 @@ loop-more-preserved g c =
     let fs = contents c.loop-more.refusals in
     let n = c.loop-more.counts in
     let f = shape c.decode.result in
-    let done = c.take-line.ensures in
+    let done = c.take_line.ensures in
     let plan : q ≡ p = c.loop-more.invariant.1 in
     let here : coming c.loop-more.more x ≡ f ∷ behind x =
     ap (λ b. coming b x) c.loop-more-test.true ∙ ap (λ r. r ∷ behind x) (sym (c.decode.ensures ∙ ap decoded c.bytes.ensures)) in
-    let counts : c.take-line.new.counts ≡ step_counts p w n f = done.counts ∙ ap (λ r. step_counts r w n f) plan in (
-      call_line p w (world g.B.SealView.held c.take-line.new.hall) fs (contents c.take-line.new.refusals) n c.take-line.new.counts (line_now x) (line_now y)
+    let counts : c.take_line.new.counts ≡ step_counts p w n f = done.counts ∙ ap (λ r. step_counts r w n f) plan in (
+      call_line p w (world g.B.SealView.held c.take_line.new.hall) fs (contents c.take_line.new.refusals) n c.take_line.new.counts (line_now x) (line_now y)
           (coming c.loop-more.more x) f (behind x) c.advance-more.result y
           (called p (world g.B.SealView.held c.args.hall.now) (line_now c.args.reader.now) (contents c.args.refusals.now) no_counts (coming c.args.first c.args.reader.now))
           c.loop-more.invariant.0 here (done.world ∙ ap (λ r. step_world r w f) plan)
