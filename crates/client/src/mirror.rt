@@ -1,7 +1,7 @@
 //! A draw of this crate's own: in every round the last seat comes first.
 ghost use Rattle.std.specs.Prelude.{◌≤◌};
 
-pub mod calls;
+pub mod methods;
 
 /// The ranks of n seats, the same in each of some rounds.
 #[derive(Clone, Copy)]

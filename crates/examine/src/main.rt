@@ -34,13 +34,13 @@ fn request_of(rt: &HostRuntime) -> anyhow::Result<Request> {
         }
     }
     let Some(file) = words.pop() else {
-        return Err(USAGE.into());
+        return Err(anyhow!("{USAGE}"));
     };
     let Some(hall) = words.pop() else {
-        return Err(USAGE.into());
+        return Err(anyhow!("{USAGE}"));
     };
     if !words.is_empty() {
-        return Err(USAGE.into());
+        return Err(anyhow!("{USAGE}"));
     }
     match hall.as_str() {
         "card" => Ok(Request {
@@ -53,7 +53,7 @@ fn request_of(rt: &HostRuntime) -> anyhow::Result<Request> {
             slips: true,
             file,
         }),
-        _ => Err(USAGE.into()),
+        _ => Err(anyhow!("{USAGE}")),
     }
 }
 

@@ -1,4 +1,4 @@
-//! The two halls as they are called from C: one exported function for each.
+//! The two halls: one function for each, from the bytes of a submission to those of its record.
 #![tactic(auto)]
 
 ghost use Rattle.std.specs.Prelude.{◌≡◌, length};
@@ -16,8 +16,7 @@ use seals::row::RowBook;
 
 /// Runs a submission in the card hall, with cards, the rotation and the row book, and writes its record. The answer is the length
 /// written, or 1,000,000 and 24 for a submission above 65,535 bytes, or 1,000,000 and 4 for an output buffer below 2,048 bytes.
-#[unsafe(no_mangle)]
-pub extern "C" fn card_hall(submission: &[u8], output: &mut [u8]) -> u32
+pub fn card_hall(submission: &[u8], output: &mut [u8]) -> u32
     ensures buffer { output.new ≡ buffer_after Cards submission.now output.old }
     ensures answer { result ≡ answer Cards submission.now (length output.old) }
     ensures journal { RunsKept }
@@ -30,8 +29,7 @@ pub extern "C" fn card_hall(submission: &[u8], output: &mut [u8]) -> u32
 
 /// Runs a submission in the slip hall, with slips, the table draw and the listed book, and writes its record. The answer is as that of
 /// the card hall.
-#[unsafe(no_mangle)]
-pub extern "C" fn slip_hall(submission: &[u8], output: &mut [u8]) -> u32
+pub fn slip_hall(submission: &[u8], output: &mut [u8]) -> u32
     ensures buffer { output.new ≡ buffer_after Slips submission.now output.old }
     ensures answer { result ≡ answer Slips submission.now (length output.old) }
     ensures journal { RunsKept }

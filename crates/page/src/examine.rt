@@ -8,7 +8,7 @@ ghost use Rattle.page.specs.Journals.{RunsKept};
 ghost use Rattle.page.specs.Record.{only};
 ghost use Rattle.page.specs.Run.{page as page_of, run, answer, buffer_after, collected};
 
-use crate::entries::fill_entries;
+use crate::entry_table::fill_entries;
 use crate::fault::{PageFault, refused_at};
 use crate::first::judge;
 use crate::ranks::slip_plan;

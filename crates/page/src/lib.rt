@@ -1,7 +1,7 @@
 //! The page: a submission's lines are run on a hall, and its record is written.
 #![tactic(auto)]
 
-mod entries;
+mod entry_table;
 pub mod examine;
 pub mod fault;
 mod first;

@@ -8,7 +8,7 @@ use Rattle.page.specs.Reading.{behind}
 use Rattle.page.specs.declared.fault.PageFault.TheVariants.{Malformed}
 use Rattle.page.specs.Run.{placed, collected, entry_refusals}
 use Rattle.page.proofs.LineLaws.{entry_line, closing_line, misplaced_line}
-use Rattle.page.proofs.entries.fill_entries.Goals as goal
+use Rattle.page.proofs.entry_table.fill_entries.Goals as goal
 
 pub loop-sort-preserved-in-Entry : goal.loop-sort-preserved-in-Entry
 loop-sort-preserved-in-Entry c =

@@ -5,7 +5,7 @@ use Rattle.lines.specs.Reading.{left, line_now}
 use Rattle.page.specs.Run.{collected}
 use Rattle.page.specs.Reading.{behind}
 use Rattle.model.specs.Setup.{Plan as Model}
-use Rattle.page.proofs.entries.fill_entries.Given as goal
+use Rattle.page.proofs.entry_table.fill_entries.Given as goal
 
 abbrev pub invariant-loop-sort : goal.invariant-loop-sort
 invariant-loop-sort l =
