@@ -1,5 +1,5 @@
 -- What is in a mask after a number has joined it or left it.
-use Rattle.std.proofs.Common.{◌≡◌, ℕ, zero, suc, ◌+◌, ◌-◌, ◌*◌, ◌/◌, ◌%◌, ◌^◌, ◌<◌, ◌≤◌, min, max, Bool, true, false, cond, not, ◌&&◌, eqb, ltb, ◌⊎◌, sym, refl, ap, ◌∙◌, subst, ⊎_elim, mod-lt, pow-suc, div-one, one-add, arith, lit<, pow_pos, pow-add, shr-shr}
+use Rattle.std.proofs.Common.{◌≡◌, ℕ, zero, suc, ◌+◌, ◌-◌, ◌*◌, ◌/◌, ◌%◌, ◌^◌, ◌<◌, ◌≤◌, min, max, true, false, not, ◌&&◌, eqb, ltb, sym, ap, ◌∙◌, subst, ⊎_elim, mod-lt, pow-suc, div-one, one-add, arith, lit<, pow_pos, pow-add, shr-shr}
 use native.Mathlib.Nat.{zero-div, div_self, div-eq_of_lt, mul-mod_left}
 use lib.Bits.{bit_or, bit_and, or_shr, or_step, and_shr, and_step, and_mask, and_le_l}
 use lib.Pow.{pow-lt, shl-shr}

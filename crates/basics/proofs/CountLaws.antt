@@ -1,5 +1,5 @@
 -- Counts below a bound: how large they are, when they agree, and what one number more adds.
-use Rattle.std.proofs.Common.{◌≡◌, ℕ, zero, suc, ◌+◌, ◌-◌, ◌*◌, ◌/◌, ◌%◌, ◌^◌, ◌<◌, ◌≤◌, Bool, true, false, cond, ◌||◌, eqb, ◌⊎◌, sym, refl, ap, ◌∙◌, ap₂, ⊎_elim, add-zero, add-suc, mod-lt, mod-eq_of_lt, add_comm, one-add, arith, lit<, pow_pos}
+use Rattle.std.proofs.Common.{◌≡◌, ℕ, zero, suc, ◌+◌, ◌-◌, ◌*◌, ◌/◌, ◌%◌, ◌^◌, ◌<◌, ◌≤◌, Bool, true, false, cond, ◌||◌, eqb, sym, refl, ap, ◌∙◌, ap₂, ⊎_elim, add-zero, add-suc, mod-lt, mod-eq_of_lt, add_comm, one-add, arith, lit<, pow_pos}
 use native.Mathlib.Nat.{mod-one}
 use lib.Pow.{mod-pow-add}
 use lib.Count.{ones, ones_in, ones_cat}

@@ -1,5 +1,5 @@
 -- Changing a function at one number.
-use Rattle.std.specs.Prelude.{ℕ, Bool, cond, ◌==◌, nat_lt}
+use Rattle.std.specs.Prelude.{ℕ, cond, ◌==◌, nat_lt}
 
 -- as f, but v at i
 abbrev pub put : {A : Type 0} → ℕ → A → (ℕ → A) → ℕ → A

@@ -1,5 +1,5 @@
 -- The ranks of the mirror, and that they occur once each.
-use Rattle.std.specs.Prelude.{◌≡◌, ℕ, ◌-◌, ◌≤◌}
+use Rattle.std.specs.Prelude.{ℕ, ◌-◌, ◌≤◌}
 use Rattle.std.proofs.Common.{arith}
 use Rattle.draws.specs.Ranks.{Once}
 

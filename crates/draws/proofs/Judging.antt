@@ -1,10 +1,10 @@
 -- What a judged round has seen, and that a copied table has the same ranks.
-use Rattle.std.proofs.Common.{◌≡◌, ℕ, suc, ◌+◌, ◌-◌, ◌*◌, ◌<◌, ◌≤◌, Bool, true, false, cond, not, ◌&&◌, ◌||◌, eqb, ltb, leb, ◌⊎◌, List, length, get_or, Ok, Err, sym, refl, ap, ◌∙◌, ap₂, ⊎_elim, add-one, arith}
+use Rattle.std.proofs.Common.{◌≡◌, ℕ, suc, ◌+◌, ◌-◌, ◌*◌, ◌<◌, ◌≤◌, Bool, true, false, cond, ◌&&◌, ◌||◌, eqb, ltb, leb, ◌⊎◌, List, length, get_or, Ok, sym, refl, ap, ◌∙◌, ap₂, ⊎_elim, add-one, arith}
 use Rattle.std.proofs.lemmas.Nat.{mul-add-lt, mul-le}
 use Rattle.std.proofs.lemmas.Bool.{cases_Bool, le-leb, lt-leb, lt-ltb, ltb-true, leb-true, and_parts, and_from, or_left, or_right, cond-true, cond-false}
 use Rattle.basics.specs.Bit.{bit}
 use Rattle.basics.specs.Count.{some_below}
-use Rattle.basics.specs.Put.{put, put_below}
+use Rattle.basics.specs.Put.{put_below}
 use Rattle.basics.proofs.BitLaws.{put_inside}
 use Rattle.basics.proofs.CountLaws.{some_same, some_here}
 use Rattle.basics.specs.Numbers.{only_if}

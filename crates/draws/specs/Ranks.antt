@@ -1,5 +1,5 @@
 -- The ranks of seats in rounds, and when those of a round occur once each.
-use Rattle.std.specs.Prelude.{◌≡◌, ℕ, suc, ◌+◌, ◌-◌, ◌*◌, ◌<◌, ◌≤◌, Bool, true, false, cond, ◌&&◌, ◌||◌, List, Option, ◌==◌, ◌≢◌, nat_eq, nat_le, nat_lt, slice_index}
+use Rattle.std.specs.Prelude.{◌≡◌, ℕ, suc, ◌+◌, ◌-◌, ◌*◌, ◌<◌, ◌≤◌, Bool, false, cond, ◌&&◌, ◌||◌, List, Option, ◌==◌, ◌≢◌, nat_eq, nat_le, nat_lt, slice_index}
 use Rattle.std.proofs.Common.{sym, subst, ⊎_elim, arith}
 use Rattle.std.proofs.lemmas.Bool.{cases_order, eq-eqb, leb-false, or_parts, both_ways}
 use Rattle.basics.specs.Count.{some_below}

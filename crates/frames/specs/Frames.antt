@@ -1,5 +1,5 @@
 -- Frames, told by the first byte and the length. Numbers stand high byte first.
-use Rattle.std.specs.Prelude.{ℕ, ◌+◌, ◌*◌, Bool, true, false, cond, ◌&&◌, List, [], ◌∷◌, map, length, drop, ◌==◌, nat_le, nat_lt, slice_index, slice_index_or}
+use Rattle.std.specs.Prelude.{ℕ, ◌+◌, ◌*◌, Bool, cond, ◌&&◌, List, map, length, drop, ◌==◌, nat_le, nat_lt, slice_index, slice_index_or}
 use Rattle.lines.specs.Lines.{lines}
 use Rattle.model.specs.Checks.{Call}
 use Rattle.model.specs.Checks.Call.{tick, enter, propose, echo, finish, commit, deliver, forge, seal}

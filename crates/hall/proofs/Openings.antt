@@ -1,17 +1,15 @@
 -- The opening, seat by seat.
-use Rattle.std.proofs.Common.{◌≡◌, ℕ, ◌+◌, ◌<◌, ◌≤◌, Bool, true, false, cond, not, ◌&&◌, ◌||◌, eqb, ltb, List, [], ◌∷◌, get_or, replicate, sym, refl, ap, ◌∙◌, ap₂, ⊎_elim, arith}
+use Rattle.std.proofs.Common.{◌≡◌, ℕ, ◌+◌, Bool, true, false, cond, ◌&&◌, ◌||◌, eqb, ltb, List, [], get_or, replicate, sym, refl, ap, ◌∙◌, ⊎_elim, arith}
 use Rattle.std.proofs.lemmas.Bool.Decides.{nat_tests}
 use Rattle.std.proofs.lemmas.Bool.{le-ltb, eqb-true, cond-true, cond-false, cases_Bool}
-use Rattle.basics.specs.Bit.{bit}
 use Rattle.basics.proofs.BitLaws.{bit_none}
 use Rattle.model.specs.Setup.{Plan as Model}
 use Rattle.model.specs.Setup.{honest}
-use Rattle.model.specs.World.{World, beacon_share, same, message, has}
-use Rattle.model.specs.World.{Seat as ModelSeat}
+use Rattle.model.specs.World.{World, beacon_share, same}
 use Rattle.model.specs.World.{Message as Said}
 use Rattle.model.specs.World.Phase.{waiting}
 use Rattle.model.specs.Seats.{fresh}
-use Rattle.messages.specs.Stored.{stored, nothing}
+use Rattle.messages.specs.Stored.{nothing}
 use Rattle.messages.proofs.RowLaws.{none_in_rows}
 use Rattle.tree.proofs.Unmade.{each_repeated}
 use Rattle.seats.specs.declared.seat.Seat.{Seat}

@@ -1,5 +1,5 @@
 -- The third check of a call that names a parent and places.
-use Rattle.std.proofs.Common.{◌≡◌, ℕ, Bool, true, false, cond, ◌&&◌, List, ◌∷◌, Some, None, Ok, Err, Option, Result, sym, refl, ap, ◌∙◌, arith}
+use Rattle.std.proofs.Common.{◌≡◌, ℕ, Bool, true, false, cond, ◌&&◌, List, ◌∷◌, Some, None, Ok, Err, Option, Result, sym, refl, ap, arith}
 use Rattle.model.specs.Setup.{Plan as Model}
 use Rattle.model.specs.World.{World}
 use Rattle.model.specs.Checks.{Check, first_failed, known, payload_ok}

@@ -1,5 +1,5 @@
 -- What a known block's number says.
-use Rattle.std.proofs.Common.{◌≡◌, ℕ, ◌+◌, ◌-◌, ◌*◌, ◌/◌, ◌<◌, ◌≤◌, Bool, true, cond, ◌&&◌, ◌||◌, eqb, ltb, ap, ◌∙◌, subst, ⊎_elim, div-lt_iff_lt-mul, arith}
+use Rattle.std.proofs.Common.{◌≡◌, ℕ, ◌+◌, ◌-◌, ◌*◌, ◌/◌, ◌<◌, ◌≤◌, true, ◌&&◌, eqb, ltb, ap, ⊎_elim, div-lt_iff_lt-mul, arith}
 use Rattle.std.proofs.lemmas.Bool.{or_cases, and_parts, eqb-true, ltb-true, cond-false, ne_eqb, cases_eq}
 use Rattle.model.specs.Setup.{numbers, round_of}
 use Rattle.model.specs.World.{World}

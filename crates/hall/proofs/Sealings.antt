@@ -1,5 +1,5 @@
 -- The third check of a corrupt seat's seal, and that a seal past it can be in a book.
-use Rattle.std.proofs.Common.{◌≡◌, ℕ, ◌+◌, ◌*◌, ◌<◌, ◌≤◌, Bool, true, false, cond, not, ◌&&◌, ◌||◌, eqb, ltb, leb, ◌⊎◌, List, ◌∷◌, Ok, Err, sym, refl, ap, ◌∙◌, subst, ap₂, ⊎_elim, mul-le-mul, arith}
+use Rattle.std.proofs.Common.{◌≡◌, ℕ, ◌*◌, ◌<◌, ◌≤◌, Bool, true, false, cond, not, ◌&&◌, ◌||◌, eqb, ltb, leb, List, ◌∷◌, Err, sym, refl, ap, ◌∙◌, ⊎_elim, mul-le-mul, arith}
 use Rattle.std.proofs.lemmas.Bool.{ne_eqb, cases_eq, eq-eqb, cond-true, cond-false, and_parts, or_cases, ltb-true, leb-true, eqb-true, not-true}
 use Rattle.std.proofs.lemmas.Bool.Decides.{nat_tests}
 use Rattle.model.specs.Setup.{Plan as Model}

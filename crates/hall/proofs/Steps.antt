@@ -1,5 +1,5 @@
 -- From what the parts of a call promise to what the rules say of the call.
-use Rattle.std.proofs.Common.{◌≡◌, ℕ, ◌<◌, ◌≤◌, Bool, true, false, cond, not, ◌&&◌, ◌||◌, eqb, ltb, leb, List, [], ◌∷◌, ◌++◌, is_ok, Ok, Err, Result, sym, refl, ap, ◌∙◌, subst, ap₂, arith}
+use Rattle.std.proofs.Common.{◌≡◌, ℕ, Bool, true, false, cond, not, ◌&&◌, ◌||◌, eqb, ltb, leb, List, [], ◌∷◌, ◌++◌, Ok, Err, Result, sym, refl, ap, ◌∙◌, subst, ap₂, arith}
 use Rattle.std.proofs.lemmas.Bool.{cond-true, cond-false, ne_eqb}
 use Rattle.model.specs.Setup.{Plan as Model}
 use Rattle.model.specs.World.{World, message}
@@ -8,9 +8,8 @@ use Rattle.model.specs.Checks.{Call, Check, Verdict, caller, verdict, first_fail
 use Rattle.model.specs.Checks.Check.{must}
 use Rattle.model.specs.Checks.Verdict.{accepted, refused}
 use Rattle.model.specs.Effects.{is_accepted, after, effect, broadcast, seals, seat_after, with_new_block}
-use Rattle.model.specs.Journal.{Line, Kept}
+use Rattle.model.specs.Journal.{Kept}
 use Rattle.model.specs.Journal.Kept.{called}
-use Rattle.model.specs.Promises.{Promises}
 use Rattle.model.proofs.Law.{law_stands}
 use Rattle.plans.specs.declared.plan.Plan.{Plan}
 use Rattle.plans.specs.Planned.{model}
@@ -23,7 +22,7 @@ use Rattle.hall.specs.declared.fault.HallFault.{HallFault}
 use Rattle.hall.specs.declared.fault.HallFault.TheVariants.{NoSeat, OtherSort, OutOfRange, Seat}
 use Rattle.hall.specs.Faults.{fault_verdict}
 use Rattle.hall.specs.Worlds.{world}
-use Rattle.hall.specs.Steps.{posting, seating, ruled, Ran, Decided}
+use Rattle.hall.specs.Steps.{posting, seating, Ran, Decided}
 use Rattle.hall.specs.Answers.{seat_if, block_if, message_if, Called}
 
 -- The checks that begin a call, by what the code found.

@@ -1,10 +1,10 @@
 -- What a call on a hall answers and leaves, in the terms of the rules.
-use Rattle.std.specs.Prelude.{◌≡◌, ℕ, Bool, cond, not, ◌&&◌, ◌||◌, List, [], ◌∷◌, ◌++◌, Ok, Err, Result, ◌==◌, nat_le, nat_lt}
+use Rattle.std.specs.Prelude.{◌≡◌, ℕ, Bool, cond, ◌&&◌, ◌||◌, List, [], ◌∷◌, ◌++◌, Ok, Err, Result, ◌==◌, nat_le, nat_lt}
 use Rattle.basics.specs.declared.numbers.SeatIndex.{SeatIndex}
 use Rattle.basics.specs.declared.numbers.BlockNumber.{BlockNumber}
 use Rattle.basics.specs.declared.numbers.Round.{Round}
 use Rattle.model.specs.Setup.{Plan as Model}
-use Rattle.model.specs.Setup.{honest, Lawful}
+use Rattle.model.specs.Setup.{Lawful}
 use Rattle.model.specs.World.{World, message}
 use Rattle.model.specs.World.{Message as Said}
 use Rattle.model.specs.Checks.{Call, Verdict, verdict, known, in_range}

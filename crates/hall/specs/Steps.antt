@@ -1,10 +1,8 @@
 -- The steps of a call: a seat's rule runs, and what it hands back is posted.
-use Rattle.std.specs.Prelude.{◌≡◌, ℕ, Bool, false, cond, ◌&&◌, ◌||◌, List, [], ◌∷◌, ◌==◌}
+use Rattle.std.specs.Prelude.{◌≡◌, ℕ, Bool, cond, ◌&&◌, ◌||◌, List, [], ◌∷◌, ◌==◌}
 use Rattle.basics.specs.Put.{put}
 use Rattle.model.specs.Setup.{Plan as Model}
-use Rattle.model.specs.Setup.{honest}
-use Rattle.model.specs.Seats.{fresh}
-use Rattle.model.specs.World.{World, has, beacon_share, same}
+use Rattle.model.specs.World.{World, has, beacon_share}
 use Rattle.model.specs.World.{Seat as ModelSeat}
 use Rattle.model.specs.World.{Message as Said}
 use Rattle.model.specs.Checks.{Call, Verdict, caller}

@@ -1,16 +1,12 @@
 -- The state of the rules that a hall stands for.
-use Rattle.std.specs.Prelude.{ℕ, Bool, true, false, cond, ◌&&◌, ◌||◌, List, [], ◌∷◌, slice_index_or}
+use Rattle.std.specs.Prelude.{ℕ, Bool, false, [], slice_index_or}
 use Rattle.std.proofs.Common.{arith}
-use Rattle.basics.specs.Put.{put}
-use Rattle.model.specs.World.{World, has}
-use Rattle.model.specs.World.{Seat as ModelSeat}
-use Rattle.model.specs.World.{Message as Said}
+use Rattle.model.specs.World.{World}
 use Rattle.messages.specs.Stored.{stored}
 use Rattle.tree.specs.Blocks.{mades, parents, payloads}
 use Rattle.seats.specs.declared.seat.Phase.TheVariants.{Waiting}
 use Rattle.seats.specs.declared.seat.Seat.{Seat}
 use Rattle.seats.specs.Seated.{seated, pooled}
-use Rattle.seats.specs.Desk.{sealed_with}
 use Rattle.hall.specs.declared.hall.Hall.{Hall}
 
 -- a seat past the last one: as at the opening, with an empty pool

@@ -1,5 +1,5 @@
 -- Lemmas on what is written: one more byte, one more line, and how long lines are.
-use Rattle.std.proofs.Common.{◌≡◌, ℕ, suc, ◌+◌, ◌*◌, ◌/◌, ◌%◌, ◌<◌, ◌≤◌, cond, leb, List, [], ◌∷◌, ◌++◌, length, get_or, take, drop, set, sym, refl, ap, ◌∙◌, append_assoc, append-nil, add-zero, add-one, arith, length-append, length-drop, take-append-drop, length-take-le, drop-cons, drop-drop}
+use Rattle.std.proofs.Common.{◌≡◌, ℕ, suc, ◌+◌, ◌*◌, ◌/◌, ◌%◌, ◌<◌, ◌≤◌, cond, List, [], ◌∷◌, ◌++◌, length, get_or, take, drop, set, sym, refl, ap, ◌∙◌, append_assoc, append-nil, add-zero, add-one, arith, length-append, length-drop, take-append-drop, length-take-le, drop-cons, drop-drop}
 use lib.Seq.{set_at, append_snoc, take-append_seam, drop-append-add}
 use Rattle.std.proofs.lemmas.Bool.{le-leb}
 use Rattle.lines.specs.Output.{numeral, hexed, line, text, written, over, next_place, put, place_after, put_all, place_after_all}

@@ -1,5 +1,5 @@
 -- The rows of a set of messages: each message that there can be has a bit of its own.
-use Rattle.std.proofs.Common.{◌≡◌, ℕ, zero, suc, ◌+◌, ◌-◌, ◌*◌, ◌<◌, ◌≤◌, Bool, true, false, cond, ◌&&◌, ◌||◌, eqb, ltb, leb, ◌⊎◌, List, length, get_or, set, replicate, sym, refl, ap, ◌∙◌, subst, ap₂, ⊎_elim, arith, get_or-set_other, get_or-set_same}
+use Rattle.std.proofs.Common.{◌≡◌, ℕ, zero, suc, ◌<◌, ◌≤◌, Bool, true, false, cond, ◌&&◌, ◌||◌, eqb, List, length, get_or, set, replicate, sym, refl, ap, ◌∙◌, subst, ap₂, ⊎_elim, arith, get_or-set_other, get_or-set_same}
 use Rattle.std.proofs.lemmas.Bool.Decides.{nat_tests}
 use Rattle.std.proofs.lemmas.Bool.{cases_eq, eq-eqb, ne_eqb, eqb-true, and_from, and_left, and_right, and_parts}
 use Rattle.basics.specs.Bit.{bit}
@@ -7,7 +7,7 @@ use Rattle.basics.specs.Put.{put}
 use Rattle.basics.specs.Count.{tally}
 use Rattle.basics.proofs.BitLaws.{bit_none}
 use Rattle.basics.proofs.CountLaws.{tally_same}
-use Rattle.model.specs.World.{message, same}
+use Rattle.model.specs.World.{message}
 use Rattle.model.specs.World.{Message as Said}
 use Rattle.messages.specs.Meaning.{means, share_kind, share_subject}
 use Rattle.messages.specs.Rows.{subject_fits, row}

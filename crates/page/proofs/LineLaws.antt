@@ -1,5 +1,5 @@
 -- Lemmas on one line of a run: an entry line, or a call line.
-use Rattle.std.proofs.Common.{◌≡◌, ℕ, ◌+◌, ◌≤◌, Bool, true, false, List, [], ◌∷◌, ◌++◌, map, Ok, Err, Result, sym, refl, ap, ◌∙◌, arith}
+use Rattle.std.proofs.Common.{◌≡◌, ℕ, ◌+◌, ◌≤◌, Bool, true, false, List, ◌∷◌, Err, Result, sym, refl, ap, ◌∙◌, arith}
 use Rattle.model.specs.Setup.{Plan, Plan as Model}
 use Rattle.model.specs.World.{World}
 use Rattle.model.specs.Checks.{Verdict, verdict}

@@ -3,14 +3,14 @@ use Rattle.std.proofs.Common.{◌≡◌, ℕ, ◌+◌, ◌*◌, ◌<◌, ◌≤�
 use Rattle.std.proofs.lemmas.Bool.{le-leb, lt-ltb}
 use Rattle.model.specs.Setup.{Plan, honest}
 use Rattle.model.specs.World.{World, Seat}
-use Rattle.lines.specs.Output.{line, text, over, written, put, place_after, put_all, place_after_all}
+use Rattle.lines.specs.Output.{line, text, over, put, place_after, put_all, place_after_all}
 use Rattle.lines.proofs.OutputLaws.{length_line, text_append, text_push, put_all_append, place_all_append, all_fit, over_next}
 use Rattle.records.specs.Frames.{wides, report_frame, put_report, place_after_report, refusal_frame, counts_frame}
 use Rattle.records.specs.declared.seat.SeatReport.{SeatReport}
 use Rattle.records.specs.declared.refusal.Refusal.{Refusal}
 use Rattle.records.specs.declared.totals.Counts.{Counts}
 use Rattle.records.proofs.FrameLaws.{length_wides, length_refusals}
-use Rattle.page.specs.Record.{state, seat_frame, seat_frames, record_frames, only}
+use Rattle.page.specs.Record.{state, seat_frame, seat_frames}
 use Rattle.page.specs.Shape.{Reported}
 
 -- the frame of a report is the frame of the seat that it reports

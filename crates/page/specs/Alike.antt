@@ -1,5 +1,5 @@
 -- Which entries of a page are alike.
-use Rattle.std.specs.Prelude.{Bool, true, false}
+use Rattle.std.specs.Prelude.{Bool, false}
 use Rattle.entries.specs.Likeness.{cards_alike, slips_alike}
 use Rattle.page.specs.declared.types.PageEntry.{PageEntry}
 use Rattle.page.specs.declared.types.PageEntry.TheVariants.{Card, Slip}

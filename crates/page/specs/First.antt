@@ -1,5 +1,5 @@
 -- The first line: the plan that it makes, or why it is refused.
-use Rattle.std.specs.Prelude.{ℕ, zero, suc, ◌+◌, Bool, cond, Ok, Err, Result}
+use Rattle.std.specs.Prelude.{ℕ, zero, suc, ◌+◌, cond, Ok, Err, Result}
 use Rattle.basics.specs.Bit.{bit}
 use Rattle.model.specs.Setup.{Plan as Model}
 use Rattle.draws.specs.Made.{in_bounds}

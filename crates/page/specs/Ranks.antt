@@ -1,5 +1,5 @@
 -- The rank lines of the slip hall, and the plan with their ranks.
-use Rattle.std.specs.Prelude.{ℕ, cond, List, [], Ok, Err, Result}
+use Rattle.std.specs.Prelude.{ℕ, List, [], Ok, Err, Result}
 use Rattle.model.specs.Setup.{Plan as Model}
 use Rattle.draws.specs.Made.{Meaning, table_made}
 use Rattle.draws.specs.Ranks.{table_rank}

@@ -1,5 +1,5 @@
 -- What a reader has still to give, as frames.
-use Rattle.std.specs.Prelude.{ℕ, Bool, List, map}
+use Rattle.std.specs.Prelude.{Bool, List, map}
 use Rattle.lines.specs.Reading.{left, upcoming}
 use Rattle.lines.specs.declared.reader.Reader.{Reader}
 use Rattle.frames.specs.Frames.{Frame, decoded, frames}

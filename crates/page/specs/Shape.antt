@@ -1,5 +1,5 @@
 -- What a report of the code says of a seat of the rules.
-use Rattle.std.specs.Prelude.{◌≡◌, ℕ, ◌≤◌, take}
+use Rattle.std.specs.Prelude.{◌≡◌, ◌≤◌, take}
 use Rattle.model.specs.World.{Seat}
 use Rattle.records.specs.declared.seat.SeatReport.{SeatReport}
 use Rattle.page.specs.Record.{state}

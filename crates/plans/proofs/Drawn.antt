@@ -1,9 +1,9 @@
 -- The ranks that a plan takes from a draw.
-use Rattle.std.proofs.Common.{◌≡◌, ℕ, ◌+◌, ◌-◌, ◌*◌, ◌/◌, ◌%◌, ◌<◌, ◌≤◌, Bool, true, false, cond, ◌&&◌, ltb, leb, ◌⊎◌, List, get_or, sym, refl, ap, ◌∙◌, subst, ap₂, ⊎_elim, arith}
+use Rattle.std.proofs.Common.{◌≡◌, ℕ, ◌+◌, ◌-◌, ◌*◌, ◌/◌, ◌%◌, ◌<◌, ◌≤◌, Bool, true, false, cond, ◌&&◌, ltb, leb, List, get_or, sym, ap, ◌∙◌, subst, ap₂, ⊎_elim, arith}
 use lib.Arith.{digits_div, digits_mod}
 use Rattle.std.proofs.lemmas.Bool.{cases_Bool, cond-true, cond-false, and_parts, ltb-true, leb-true, lt-ltb}
 use Rattle.draws.specs.Ranks.{drawn, Once}
-use Rattle.plans.specs.Tables.{rank_in, TwoSeats, RanksBelow, RanksApart}
+use Rattle.plans.specs.Tables.{rank_in, RanksBelow, RanksApart}
 use Rattle.plans.specs.Setup.{drawn_rank}
 
 module _ (n R : ℕ) (rank : ℕ → ℕ → ℕ) (ranks : List ℕ) (few : n ≤ 13) (short : R ≤ 8)

@@ -1,5 +1,5 @@
 -- A plan that was just taken from a draw.
-use Rattle.std.proofs.Common.{◌≡◌, ℕ, zero, suc, ◌+◌, ◌*◌, ◌<◌, ◌≤◌, Bool, true, false, cond, ◌&&◌, ltb, leb, List, get_or, Ok, Err, Result, sym, refl, ap, ◌∙◌, ap₂, arith}
+use Rattle.std.proofs.Common.{◌≡◌, ℕ, ◌+◌, ◌*◌, ◌≤◌, false, cond, ◌&&◌, ltb, leb, List, get_or, Ok, Err, sym, ap, ◌∙◌, arith}
 use Rattle.std.proofs.lemmas.Bool.{cond-true, and_from, le-leb, le-ltb}
 use Rattle.basics.specs.Bit.{bit}
 use Rattle.basics.specs.Count.{tally}
@@ -8,7 +8,6 @@ use Rattle.basics.proofs.CountLaws.{tally_none}
 use Rattle.model.specs.Setup.{Plan as Model}
 use Rattle.plans.specs.Tables.{rank_in, like_in}
 use Rattle.plans.specs.Setup.{drawn_rank, fresh_plan, planned}
-use Rattle.plans.specs.declared.fault.PlanFault.{PlanFault}
 use Rattle.plans.specs.declared.fault.PlanFault.TheVariants.{TooFewSeats, LongDelay}
 
 pub none_corrupt : (n t : ℕ) → tally (bit 0) n ≤ t

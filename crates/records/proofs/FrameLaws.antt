@@ -1,11 +1,9 @@
 -- Lemmas on the frames of a record: one more block, one more refusal, and how long their lines are.
-use Rattle.std.proofs.Common.{◌≡◌, ℕ, ◌+◌, ◌*◌, ◌/◌, ◌%◌, ◌<◌, ◌≤◌, List, [], ◌∷◌, ◌++◌, map, length, get_or, take, drop, set, sym, refl, ap, ◌∙◌, append_assoc, arith, length-append, length-set, length-take}
+use Rattle.std.proofs.Common.{◌≡◌, ℕ, ◌+◌, ◌*◌, ◌/◌, ◌%◌, ◌<◌, List, [], ◌∷◌, ◌++◌, map, length, take, set, refl, ap, ◌∙◌, append_assoc, arith, length-append, length-set}
 use Rattle.std.proofs.lemmas.List.{take_more_set}
 use Rattle.lines.specs.Output.{line, text}
-use Rattle.lines.proofs.OutputLaws.{length_line}
-use Rattle.records.specs.Frames.{refusal_frame, wides, report_frame}
+use Rattle.records.specs.Frames.{refusal_frame, wides}
 use Rattle.records.specs.declared.refusal.Refusal.{Refusal}
-use Rattle.records.specs.declared.seat.SeatReport.{SeatReport}
 
 pub wides_push : (xs : List ℕ) (b : ℕ) → wides (xs ++ b ∷ []) ≡ wides xs ++ b / 256 ∷ b % 256 ∷ []
 wides_push [] b = refl

@@ -1,9 +1,9 @@
 -- The rows of a row book: which seal stands where, and what one bit more adds.
-use Rattle.std.proofs.Common.{◌≡◌, ℕ, ◌+◌, ◌-◌, ◌<◌, ◌≤◌, Bool, true, false, cond, ◌&&◌, ◌||◌, eqb, ltb, leb, ◌⊎◌, List, length, get_or, set, sym, ap, ◌∙◌, subst, ap₂, inl, inr, ⊎_elim, arith, get_or-set_other, get_or-set_same}
+use Rattle.std.proofs.Common.{◌≡◌, ℕ, ◌<◌, ◌≤◌, Bool, true, false, ◌&&◌, ◌||◌, eqb, ltb, ◌⊎◌, List, length, get_or, set, sym, ap, ◌∙◌, subst, ap₂, inl, ⊎_elim, arith, get_or-set_other, get_or-set_same}
 use Rattle.std.proofs.lemmas.Bool.Decides.{nat_tests}
 use Rattle.std.proofs.lemmas.Bool.{cases_eq, eq-eqb, ne_eqb, lt-ltb, le-ltb, and_from, and_left, and_right, cases_lt}
 use Rattle.basics.specs.Bit.{bit}
-use Rattle.basics.specs.Put.{put, put_below}
+use Rattle.basics.specs.Put.{put_below}
 use Rattle.basics.specs.Count.{tally}
 use Rattle.basics.proofs.BitLaws.{bit_none, put_inside}
 use Rattle.basics.proofs.CountLaws.{tally_same, tally_none}

@@ -1,8 +1,8 @@
 -- The searches of an echo: one block at a time, in the order by rank and then by number.
-use Rattle.std.proofs.Common.{◌≡◌, ℕ, ◌+◌, ◌-◌, ◌*◌, ◌/◌, ◌%◌, ◌<◌, ◌≤◌, min, Bool, true, false, cond, not, ◌&&◌, ◌||◌, eqb, ltb, leb, ◌⊎◌, Some, None, Option, sym, refl, ap, ◌∙◌, subst, ap₂, inl, inr, ⊎_elim, arith}
+use Rattle.std.proofs.Common.{◌≡◌, ℕ, ◌+◌, ◌*◌, ◌/◌, ◌%◌, ◌<◌, min, Bool, true, false, not, ◌&&◌, eqb, ltb, ◌⊎◌, Some, None, sym, refl, ap, ◌∙◌, inl, arith}
 use Rattle.std.proofs.lemmas.Bool.{cond-true, cond-false, ne_eqb}
 use Rattle.basics.specs.Bit.{bit}
-use Rattle.basics.specs.Count.{some_below, first_below}
+use Rattle.basics.specs.Count.{some_below}
 use Rattle.basics.specs.Numbers.{only_if}
 use Rattle.model.specs.Setup.{Lawful, round_of, rank_of, number, holder, in_order}
 use Rattle.model.specs.Setup.{Plan as Model}

@@ -1,18 +1,18 @@
 -- The verdicts of a seat's rules, in the pieces that the code has: the checks of the rules past the hall's.
-use Rattle.std.proofs.Common.{◌≡◌, ℕ, ◌+◌, ◌-◌, ◌<◌, ◌≤◌, Bool, true, false, cond, not, ◌&&◌, eqb, ltb, leb, List, get_or, Some, None, Option, sym, refl, ap, ◌∙◌, ⊎_elim, arith}
+use Rattle.std.proofs.Common.{◌≡◌, ℕ, ◌+◌, ◌-◌, ◌≤◌, Bool, true, false, cond, not, ◌&&◌, eqb, ltb, leb, List, get_or, Some, None, Option, sym, refl, ap, ◌∙◌, ⊎_elim, arith}
 use Rattle.std.proofs.lemmas.Bool.{eqb-true, cases_eq}
 use Rattle.basics.specs.Bit.{bit}
 use Rattle.model.specs.Setup.{round_of, rank_of, prop_delay, ntry_delay}
 use Rattle.model.specs.Setup.{Plan as Model}
-use Rattle.model.specs.World.{World, sound}
-use Rattle.model.specs.Checks.{Call, Verdict, is_in_round, some_better, first_better}
+use Rattle.model.specs.World.{sound}
+use Rattle.model.specs.Checks.{Verdict, is_in_round, some_better, first_better}
 use Rattle.model.specs.Checks.Call.{propose, echo, finish, commit}
 use Rattle.model.specs.Checks.Verdict.{accepted, refused}
 use Rattle.model.specs.Effects.{is_accepted}
 use Rattle.tree.specs.declared.tree.Tree.{Tree}
 use Rattle.tree.specs.Blocks.{chain_places, notarized_in, valid_in}
 use Rattle.seats.specs.declared.seat.Seat.{Seat}
-use Rattle.seats.specs.Seated.{stage, seated, pooled}
+use Rattle.seats.specs.Seated.{stage, pooled}
 use Rattle.seats.specs.Desk.{bare_desk, verdict_past}
 use Rattle.seats.specs.Searches.{best_in, combined_in}
 

@@ -1,11 +1,11 @@
 -- What a rule owes, where it accepts and where it refuses.
-use Rattle.std.proofs.Common.{◌≡◌, ℕ, Bool, true, false, cond, List, [], sym, refl, ap, ◌∙◌}
+use Rattle.std.proofs.Common.{◌≡◌, ℕ, Bool, true, false, List, [], sym, ap, ◌∙◌}
 use Rattle.std.proofs.lemmas.Bool.{cond-true, cond-false}
 use Rattle.model.specs.Setup.{Plan as Model}
 use Rattle.model.specs.World.{World}
 use Rattle.model.specs.World.{Seat as ModelSeat}
 use Rattle.model.specs.World.{Message as Said}
-use Rattle.model.specs.Checks.{Call, Verdict, caller}
+use Rattle.model.specs.Checks.{Call, caller}
 use Rattle.model.specs.Checks.Verdict.{accepted, refused}
 use Rattle.model.specs.Effects.{is_accepted, seals, broadcast, seat_after}
 use Rattle.seats.specs.Desk.{verdict_past, accepts, sealed_with, Rule}

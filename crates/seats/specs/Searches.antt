@@ -1,5 +1,5 @@
 -- What an echo and a finish look for among a seat's blocks.
-use Rattle.std.specs.Prelude.{ℕ, min, Bool, cond, ◌||◌, Option, nat_le}
+use Rattle.std.specs.Prelude.{ℕ, min, Bool, ◌||◌, Option, nat_le}
 use Rattle.basics.specs.Count.{tally}
 use Rattle.basics.specs.Numbers.{only_if}
 use Rattle.model.specs.Setup.{Plan as Model}

@@ -1,6 +1,5 @@
 -- The seat of the rules that a seat of the code stands for.
-use Rattle.std.specs.Prelude.{ℕ, Bool, false, List, [], take, slice_index_or}
-use Rattle.std.proofs.Common.{arith}
+use Rattle.std.specs.Prelude.{Bool, false, take, slice_index_or}
 use Rattle.basics.specs.Bit.{bit}
 use Rattle.model.specs.World.{Phase as Stage}
 use Rattle.model.specs.World.{Seat as ModelSeat}

@@ -1,9 +1,9 @@
 -- Walks from a block to the root, one step at a time.
-use Rattle.std.proofs.Common.{◌≡◌, ℕ, zero, suc, ◌+◌, ◌-◌, ◌*◌, ◌<◌, ◌≤◌, Bool, true, false, cond, not, ◌&&◌, ◌||◌, eqb, ltb, leb, ◌⊎◌, List, [], ◌∷◌, ◌++◌, length, get_or, take, drop, sym, refl, ap, ◌∙◌, subst, ap₂, inl, inr, ⊎_elim, append_assoc, append-nil, add-one, arith, drop-cons, take-suc}
+use Rattle.std.proofs.Common.{◌≡◌, ℕ, suc, ◌+◌, ◌-◌, ◌<◌, Bool, true, false, not, ◌&&◌, eqb, ltb, ◌⊎◌, List, [], ◌∷◌, ◌++◌, length, get_or, take, drop, sym, refl, ap, ◌∙◌, ap₂, append_assoc, append-nil, add-one, arith, drop-cons, take-suc}
 use lib.Seq.{drop-length}
 use Rattle.std.proofs.lemmas.Bool.{and_right}
 use Rattle.model.specs.Setup.{Plan as Model}
-use Rattle.model.specs.World.{unlike_all, sound, chain_by, places_by, notarized_by, valid_by, block, notarization}
+use Rattle.model.specs.World.{unlike_all, sound, chain_by, places_by, block, notarization}
 use Rattle.model.specs.World.{Message as Said}
 use Rattle.tree.specs.declared.tree.Tree.{Tree}
 use Rattle.tree.specs.Blocks.{parents, payloads, chain_places, sound_block, notarized_in, valid_in}

@@ -2,7 +2,6 @@
 use Rattle.std.specs.Prelude.{ℕ, ◌-◌, Bool, false, List, [], slice_index_or}
 use Rattle.std.proofs.Common.{arith}
 use Rattle.model.specs.Setup.{Plan as Model}
-use Rattle.model.specs.Setup.{round_of}
 use Rattle.model.specs.World.{chain_by, places_by, sound, notarized_by, valid_by}
 use Rattle.model.specs.World.{Message as Said}
 use Rattle.tree.specs.Payloads.{listed}

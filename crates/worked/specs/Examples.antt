@@ -1,7 +1,6 @@
 -- Worked examples: numbers worked out by hand, each as the definitions give it.
 use Rattle.std.specs.Prelude.{◌≡◌, true, false, List, [], ◌∷◌, ◌++◌, ℕ, codes}
 use Rattle.model.specs.Setup.{Plan, number}
-use Rattle.model.specs.World.{World}
 use Rattle.model.specs.Checks.{Call, Verdict, verdict}
 use Rattle.model.specs.Checks.Call.{tick, enter, propose, echo, finish, deliver}
 use Rattle.model.specs.Checks.Verdict.{accepted, refused}

@@ -1,5 +1,5 @@
 -- The ones among the lowest n digits, or among all 16.
-use Rattle.std.proofs.Common.{◌≡◌, ℕ, ◌-◌, ◌^◌, ◌<◌, ◌≤◌, sym, ap, ◌∙◌, subst, arith}
+use Rattle.std.proofs.Common.{ℕ, ◌-◌, ◌^◌, ◌<◌, ◌≤◌, sym, ap, ◌∙◌, subst, arith}
 use lib.Bits.{and_mask, bit_and}
 use lib.Count.{ones, ones-le}
 use Rattle.std.proofs.lemmas.Nat.{one_shl}

@@ -1,5 +1,5 @@
 -- The joined set, and that past the width nothing changes.
-use Rattle.std.proofs.Common.{true, sym, arith}
+use Rattle.std.proofs.Common.{true, sym}
 use Rattle.basics.specs.Bit.{bit}
 use Rattle.basics.proofs.BitLaws.{bit_with, put_outside}
 use Rattle.basics.proofs.row.with.Goals as goal

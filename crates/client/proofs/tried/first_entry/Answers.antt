@@ -1,5 +1,5 @@
 -- The plan is the user's, the hall was opened with it, and the call goes on from there.
-use Rattle.std.proofs.Common.{◌≡◌, ℕ, Bool, true, false, cond, leb, length, Ok, Err, Result, refl, ap, ◌∙◌}
+use Rattle.std.proofs.Common.{◌≡◌, Bool, true, false, cond, leb, length, Ok, Err, Result, refl, ap, ◌∙◌}
 use Rattle.std.proofs.lemmas.Bool.{le-leb, both_ways}
 use Rattle.model.specs.Setup.{Plan as Model}
 use Rattle.plans.specs.Planned.{model}

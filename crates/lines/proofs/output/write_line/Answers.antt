@@ -1,7 +1,7 @@
-use Rattle.std.proofs.Common.{◌≡◌, ℕ, ◌+◌, ◌*◌, ◌/◌, ◌%◌, ◌<◌, ◌≤◌, List, [], ◌∷◌, ◌++◌, length, get_or, take, set, sym, refl, ap, ◌∙◌, append_assoc, arith}
+use Rattle.std.proofs.Common.{◌≡◌, ◌+◌, ◌*◌, ◌/◌, ◌<◌, [], ◌∷◌, ◌++◌, length, get_or, take, set, sym, ap, ◌∙◌, arith}
 use Rattle.std.proofs.lemmas.List.{take_more, take_all, length-take-le}
-use Rattle.lines.specs.Output.{numeral, hexed, line, written}
-use Rattle.lines.proofs.OutputLaws.{hexed_push, length_hexed, written_none, written_push, length_line, written_two}
+use Rattle.lines.specs.Output.{numeral, hexed, written}
+use Rattle.lines.proofs.OutputLaws.{hexed_push, length_hexed, written_none, written_push, written_two}
 use Rattle.lines.proofs.output.write_line.Goals as goal
 
 pub loop-b-init : goal.loop-b-init

@@ -1,6 +1,6 @@
 -- An entry, a call, or neither.
-use Rattle.std.proofs.Common.{◌≡◌, ℕ, ◌+◌, ◌≤◌, cond, ltb, List, [], ◌∷◌, ◌++◌, map, length, sym, refl, ap, ◌∙◌, arith}
-use Rattle.basics.specs.Contents.{contents, room}
+use Rattle.std.proofs.Common.{◌≡◌, ◌+◌, cond, ltb, [], ◌∷◌, ◌++◌, map, length, ap, ◌∙◌, arith}
+use Rattle.basics.specs.Contents.{contents}
 use Rattle.lines.specs.Reading.{held, line_now}
 use Rattle.frames.specs.Frames.{decoded}
 use Rattle.page.specs.Refusals.{refusal, also}

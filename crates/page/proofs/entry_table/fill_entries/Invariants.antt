@@ -1,5 +1,5 @@
 -- The invariant: the lines that are left give what all give.
-use Rattle.std.proofs.Common.{◌≡◌, ℕ, ◌+◌, List, length}
+use Rattle.std.proofs.Common.{◌≡◌, ◌+◌, length}
 use Rattle.basics.specs.Contents.{contents, room}
 use Rattle.lines.specs.Reading.{left, line_now}
 use Rattle.page.specs.Run.{collected}

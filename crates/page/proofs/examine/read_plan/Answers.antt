@@ -1,5 +1,5 @@
 -- What the first line says decides the rest.
-use Rattle.std.proofs.Common.{◌≡◌, ℕ, ◌+◌, List, [], ◌∷◌, map, Ok, Err, sym, refl, ap, ◌∙◌, arith}
+use Rattle.std.proofs.Common.{◌≡◌, ◌+◌, [], map, Ok, sym, ap, ◌∙◌, arith}
 use Rattle.plans.specs.Planned.{model}
 use Rattle.lines.specs.Reading.{held, line_now}
 use Rattle.frames.specs.Frames.{decoded}
@@ -7,9 +7,8 @@ use Rattle.frames.specs.Shape.{shape}
 use Rattle.page.specs.Reading.{behind}
 use Rattle.page.specs.Record.{only}
 use Rattle.page.specs.Run.{run, begun, collected}
-use Rattle.page.specs.declared.types.Sort.{Sort}
-use Rattle.page.specs.declared.types.Sort.TheVariants.{Cards, Slips}
-use Rattle.page.proofs.LineLaws.{first_line, begun_refused}
+use Rattle.page.specs.declared.types.Sort.TheVariants.{Cards}
+use Rattle.page.proofs.LineLaws.{first_line}
 use Rattle.page.proofs.examine.read_plan.Goals as goal
 
 pub returns-then-not-advance : goal.returns-then-not-advance

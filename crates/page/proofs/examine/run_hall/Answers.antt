@@ -1,7 +1,7 @@
 -- The hall is opened with the plan of the first lines and the entries, and its record is that of the lines that are left.
-use Rattle.std.proofs.Common.{◌≡◌, ℕ, ◌+◌, ◌≤◌, true, cond, leb, List, [], length, take, sym, refl, ap, ◌∙◌, arith, length-take}
+use Rattle.std.proofs.Common.{◌≡◌, ◌+◌, ◌≤◌, cond, [], length, sym, ap, ◌∙◌, arith, length-take}
 use Rattle.std.proofs.lemmas.Bool.{le-leb}
-use Rattle.basics.specs.Contents.{contents, room}
+use Rattle.basics.specs.Contents.{contents}
 use Rattle.model.specs.Effects.{opening}
 use Rattle.model.specs.Setup.{Plan as Model}
 use Rattle.model.specs.World.{World}

@@ -1,5 +1,5 @@
 -- One seat more is named, or refused.
-use Rattle.std.proofs.Common.{◌≡◌, ℕ, ◌+◌, ◌-◌, ◌<◌, ◌≤◌, Ok, Err, sym, refl, ap, ◌∙◌, arith, rules}
+use Rattle.std.proofs.Common.{◌≡◌, ◌+◌, ◌-◌, Err, sym, ap, ◌∙◌, arith, rules}
 use Rattle.plans.specs.Planned.{model}
 use Rattle.page.specs.First.{marked, unless_refused, named, then_named, plan_with}
 use Rattle.page.proofs.FirstLaws.{seat_step, seat_end}

@@ -1,5 +1,5 @@
 -- One rank more is added.
-use Rattle.std.proofs.Common.{◌≡◌, List, ◌++◌, length, take, sym, refl, ap, ◌∙◌, arith}
+use Rattle.std.proofs.Common.{◌++◌, ap, ◌∙◌, arith}
 use Rattle.std.proofs.lemmas.List.{take_all}
 use Rattle.basics.specs.Contents.{contents, room}
 use Rattle.page.proofs.RankLaws.{pushed_more}

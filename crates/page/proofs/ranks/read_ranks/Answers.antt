@@ -1,7 +1,7 @@
 -- A line that is missing, or malformed, or has a rank twice ends the reading; any other adds its ranks.
-use Rattle.std.proofs.Common.{◌≡◌, ℕ, suc, ◌+◌, ◌-◌, ◌*◌, ◌<◌, ◌≤◌, true, List, [], ◌∷◌, ◌++◌, map, length, Ok, Err, sym, refl, ap, ◌∙◌, mul_comm, add-mul, arith, length-append}
+use Rattle.std.proofs.Common.{◌≡◌, suc, ◌+◌, ◌-◌, ◌*◌, ◌≤◌, true, [], ◌++◌, map, length, Ok, Err, sym, ap, ◌∙◌, mul_comm, add-mul, arith, length-append}
 use Rattle.std.proofs.lemmas.Nat.{mul-le}
-use Rattle.basics.specs.Contents.{contents, room}
+use Rattle.basics.specs.Contents.{contents}
 use Rattle.draws.specs.Made.{in_bounds, table_made, table_means}
 use Rattle.plans.specs.Planned.{model}
 use Rattle.plans.specs.declared.fault.PlanFault.TheVariants.{Draw}

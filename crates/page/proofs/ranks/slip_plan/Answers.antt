@@ -1,5 +1,5 @@
 -- The table's plan is made, since the first line and each rank line were judged.
-use Rattle.std.proofs.Common.{◌≡◌, ℕ, ◌+◌, List, [], Ok, Err, sym, refl, ap, ◌∙◌}
+use Rattle.std.proofs.Common.{◌≡◌, ◌+◌, [], sym, ap, ◌∙◌}
 use Rattle.basics.specs.Contents.{contents}
 use Rattle.plans.specs.Planned.{model}
 use Rattle.lines.specs.Reading.{line_now}

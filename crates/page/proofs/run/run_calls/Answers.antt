@@ -1,5 +1,5 @@
 -- One line more is taken.
-use Rattle.std.proofs.Common.{◌≡◌, ℕ, ◌+◌, ◌≤◌, List, ◌∷◌, map, sym, refl, ap, ◌∙◌, arith}
+use Rattle.std.proofs.Common.{◌≡◌, ◌+◌, ◌∷◌, map, sym, ap, ◌∙◌, arith}
 use Rattle.plans.specs.Planned.{model}
 use Rattle.hall.specs.Worlds.{world}
 use Rattle.basics.specs.Contents.{contents}

@@ -1,5 +1,5 @@
 -- The invariant: the lines that are left give what all give; and no count overflows, since no more calls than lines were read.
-use Rattle.std.proofs.Common.{◌≡◌, ℕ, ◌+◌, ◌≤◌, length}
+use Rattle.std.proofs.Common.{◌≡◌, ◌+◌, ◌≤◌, length}
 use Rattle.plans.specs.Planned.{model}
 use Rattle.hall.specs.Worlds.{world}
 use Rattle.basics.specs.Contents.{contents, room}

@@ -1,5 +1,5 @@
 -- The three parts of a record are put one after the other, and fit.
-use Rattle.std.proofs.Common.{◌≡◌, ℕ, ◌+◌, ◌*◌, ◌≤◌, List, [], ◌∷◌, ◌++◌, map, length, sym, refl, ap, ◌∙◌, arith}
+use Rattle.std.proofs.Common.{◌≡◌, ◌≤◌, map, length, arith}
 use Rattle.plans.specs.Planned.{model}
 use Rattle.hall.specs.Worlds.{world}
 use Rattle.lines.specs.Output.{text}

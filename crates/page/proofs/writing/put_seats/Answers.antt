@@ -1,5 +1,5 @@
 -- An honest seat's line is put; a corrupt seat has none.
-use Rattle.std.proofs.Common.{◌≡◌, ℕ, ◌+◌, ◌*◌, ◌<◌, ◌≤◌, List, [], ◌∷◌, ◌++◌, length, sym, refl, ap, ◌∙◌, arith, length-append}
+use Rattle.std.proofs.Common.{◌<◌, [], ◌∷◌, length, sym, ap, ◌∙◌, arith, length-append}
 use Rattle.plans.specs.Planned.{model}
 use Rattle.hall.specs.Worlds.{world}
 use Rattle.lines.specs.Output.{line, text, put, place_after, put_all, place_after_all}

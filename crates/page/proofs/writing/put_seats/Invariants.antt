@@ -1,5 +1,5 @@
 -- The invariant: the honest seats so far are put.
-use Rattle.std.proofs.Common.{◌≡◌, ◌+◌, ◌*◌, ◌≤◌, length}
+use Rattle.std.proofs.Common.{◌≡◌, ◌*◌, ◌≤◌, length}
 use Rattle.plans.specs.Planned.{model}
 use Rattle.hall.specs.Worlds.{world}
 use Rattle.lines.specs.Output.{text, put_all, place_after_all}

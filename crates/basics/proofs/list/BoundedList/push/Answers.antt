@@ -1,5 +1,5 @@
 -- A full list stays, and any other has x as its last element.
-use Rattle.std.proofs.Common.{◌≡◌, ℕ, ◌+◌, ◌<◌, ◌≤◌, length, take, set, sym, refl, ap, ◌∙◌, add-one, arith, length-set, length-take-le, take_all, take-suc-set}
+use Rattle.std.proofs.Common.{◌<◌, length, take, set, sym, refl, ap, ◌∙◌, add-one, arith, length-set, length-take-le, take_all, take-suc-set}
 use Rattle.std.proofs.lemmas.Bool.{lt-ltb, le-ltb}
 use Rattle.basics.proofs.list.BoundedList.push.Goals as goal
 

@@ -1,8 +1,8 @@
 -- The copied table has the ranks that were judged.
-use Rattle.std.proofs.Common.{◌≡◌, ℕ, ◌≤◌, true, false, Ok, Result, sym, ap, ◌∙◌, arith}
+use Rattle.std.proofs.Common.{◌≡◌, ℕ, true, Ok, Result, sym, ap, ◌∙◌, arith}
 use Rattle.std.proofs.lemmas.Bool.{and_from, le-leb, not-true}
 use Rattle.draws.specs.declared.fault.DrawFault.{DrawFault}
-use Rattle.draws.specs.Ranks.{some_misplaced, table_rank}
+use Rattle.draws.specs.Ranks.{some_misplaced}
 use Rattle.draws.specs.Made.{Meaning, in_bounds}
 use Rattle.draws.proofs.Judging.{total_small, table_same, table_passes}
 use Rattle.draws.proofs.table.TableDraw.new.Goals as goal

@@ -1,5 +1,5 @@
 -- The judged rounds, one by one.
-use Rattle.std.proofs.Common.{◌≡◌, ℕ, suc, ◌+◌, ◌*◌, ◌<◌, ◌≤◌, true, false, not, ◌||◌, length, sym, ap, ◌∙◌, ap₂, add-one, arith}
+use Rattle.std.proofs.Common.{suc, ◌||◌, length, sym, ap, ◌∙◌, ap₂, add-one, arith}
 use Rattle.std.proofs.lemmas.Bool.{not-true, not-false, not_from_true}
 use Rattle.basics.specs.Count.{some_below}
 use Rattle.basics.proofs.CountLaws.{some_here}

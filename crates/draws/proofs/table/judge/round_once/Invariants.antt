@@ -1,5 +1,5 @@
 -- The ranks seen so far, and that no seat so far is misplaced.
-use Rattle.std.proofs.Common.{◌≡◌, ℕ, ◌+◌, false, get_or}
+use Rattle.std.proofs.Common.{◌≡◌, ◌+◌, false, get_or}
 use Rattle.basics.specs.Count.{some_below}
 use Rattle.draws.specs.Ranks.{misplaced}
 use Rattle.draws.proofs.Judging.{Seen}

@@ -1,9 +1,8 @@
-use Rattle.std.proofs.Common.{◌≡◌, ℕ, ◌≤◌, Bool, true, cond, ◌&&◌, List, [], drop, Ok, Err, Result, sym, refl, ap, ◌∙◌, subst}
+use Rattle.std.proofs.Common.{◌≡◌, ℕ, drop, Ok, Err, Result, sym, refl, ap, ◌∙◌, subst}
 use Rattle.std.proofs.lemmas.Result.{err_from_is_err_and}
 use Rattle.model.specs.Setup.{honest}
 use Rattle.model.specs.Checks.{checks, verdict, known}
 use Rattle.model.specs.Checks.Call.{commit}
-use Rattle.model.specs.Checks.Verdict.{accepted}
 use Rattle.plans.specs.Planned.{model}
 use Rattle.seats.specs.declared.fault.SeatFault.{SeatFault}
 use Rattle.seats.specs.declared.outgoing.Outgoing.{Outgoing}
@@ -11,14 +10,12 @@ use Rattle.seats.specs.Faults.{told}
 use Rattle.seats.specs.Sent.{sent, listed}
 use Rattle.seats.specs.Desk.{verdict_past}
 use Rattle.hall.specs.declared.fault.HallFault.{HallFault}
-use Rattle.hall.specs.declared.fault.HallFault.TheVariants.{Seat}
 use Rattle.hall.specs.Faults.{answer}
 use Rattle.hall.specs.Worlds.{world}
 use Rattle.hall.specs.Steps.{Ran, posting}
 use Rattle.hall.specs.Answers.{Called}
 use Rattle.hall.proofs.Steps.{seat_found, seat_missed, block_found, block_missed, refuses, rule_refused, rule_accepted}
 use Rattle.hall.proofs.Ranges.{known_round}
-use Rattle.plans.specs.declared.plan.Plan.{Plan}
 use Rattle.hall.proofs.hall.Hall.commit.Goals as goal
 
 pub returns-in_err-who : goal.returns-in_err-who

@@ -1,31 +1,26 @@
-use Rattle.std.proofs.Common.{◌≡◌, ℕ, ◌+◌, ◌<◌, ◌≤◌, min, Bool, true, false, cond, not, ◌&&◌, ◌||◌, eqb, ltb, leb, List, [], ◌∷◌, length, get_or, drop, set, Ok, Err, Result, sym, refl, ap, ◌∙◌, subst, ap₂, arith, rules}
+use Rattle.std.proofs.Common.{◌≡◌, ◌<◌, Bool, true, false, cond, List, [], ◌∷◌, length, get_or, drop, set, Err, Result, sym, refl, ap, ◌∙◌, subst, ap₂, rules}
 use borrow.Author.Rules.{get_or_read}
 use Rattle.std.proofs.lemmas.Result.{err_from_is_err_and}
-use Rattle.std.proofs.lemmas.Bool.{cond-true, cond-false, and_from, lt-ltb, le-leb, le-ltb, eq-eqb, ne_eqb}
-use Rattle.model.specs.Setup.{honest, number, round_of}
-use Rattle.model.specs.World.{World, message, exists, has}
+use Rattle.model.specs.Setup.{honest}
+use Rattle.model.specs.World.{message, exists}
 use Rattle.model.specs.World.{Message as Said}
-use Rattle.model.specs.Checks.{Verdict, checks, verdict, known, in_range, first_failed, made_in, forged_before, same_list, payload_ok}
-use Rattle.model.specs.Checks.Call.{deliver, forge, seal}
+use Rattle.model.specs.Checks.{checks}
+use Rattle.model.specs.Checks.Call.{deliver}
 use Rattle.model.specs.Checks.Verdict.{accepted, refused}
-use Rattle.model.specs.Effects.{effect}
 use Rattle.messages.specs.Meaning.{means}
-use Rattle.messages.specs.Stored.{stored, joined}
+use Rattle.messages.specs.Stored.{joined}
 use Rattle.plans.specs.Planned.{model}
-use Rattle.tree.specs.Blocks.{mades, parents, payloads}
 use Rattle.seats.specs.declared.seat.Seat.{Seat}
 use Rattle.seats.specs.Seated.{seated, pooled}
 use Rattle.seats.specs.Sent.{with_all}
-use Rattle.seats.specs.Desk.{verdict_past, accepts, sealed_with}
 use Rattle.seats.proofs.Posting.{joined_one}
 use Rattle.hall.specs.declared.fault.HallFault.{HallFault}
-use Rattle.hall.specs.declared.fault.HallFault.TheVariants.{OutOfRange, WrongRound, Repeated, FourthBlock, NoMessage}
-use Rattle.hall.specs.Faults.{answer, fault_verdict}
+use Rattle.hall.specs.declared.fault.HallFault.TheVariants.{NoMessage}
+use Rattle.hall.specs.Faults.{answer}
 use Rattle.hall.specs.Worlds.{world, no_seat}
-use Rattle.hall.specs.Steps.{Decided}
 use Rattle.hall.specs.Answers.{Called}
-use Rattle.hall.proofs.Updates.{written, arrived_at, quietly}
-use Rattle.hall.proofs.Steps.{seat_found, seat_missed, block_found, block_missed, message_found, message_missed, refuses, accepts_call, decided}
+use Rattle.hall.proofs.Updates.{arrived_at}
+use Rattle.hall.proofs.Steps.{seat_found, seat_missed, message_found, message_missed, refuses, accepts_call}
 use Rattle.hall.proofs.hall.Hall.deliver.Goals as goal
 
 pub returns-in_err-who : goal.returns-in_err-who

@@ -1,4 +1,4 @@
-use Rattle.std.proofs.Common.{◌≡◌, ℕ, leb, sym, ap, ◌∙◌, ap₂}
+use Rattle.std.proofs.Common.{ℕ, leb, sym, ap, ◌∙◌, ap₂}
 use Rattle.basics.specs.Count.{tally}
 use Rattle.model.specs.World.{exists}
 use Rattle.messages.specs.Meaning.{means}

@@ -1,4 +1,4 @@
-use Rattle.std.proofs.Common.{◌≡◌, ℕ, Bool, cond, [], sym, refl, ap, ◌∙◌, subst, arith}
+use Rattle.std.proofs.Common.{◌≡◌, cond, [], sym, refl, ap, ◌∙◌, subst, arith}
 use Rattle.model.specs.Setup.{honest}
 use Rattle.model.specs.World.{World}
 use Rattle.model.specs.Effects.{opening}

@@ -1,4 +1,4 @@
-use Rattle.std.proofs.Common.{◌≡◌, ℕ, ◌<◌, length, get_or, set, sym, refl, ap, ◌∙◌, subst, arith, rules}
+use Rattle.std.proofs.Common.{◌≡◌, ℕ, ◌<◌, length, get_or, sym, refl, ap, ◌∙◌, rules}
 use borrow.Author.Rules.{get_or_read}
 use Rattle.messages.specs.Stored.{stored}
 use Rattle.tree.specs.Blocks.{mades, parents, payloads}

@@ -1,17 +1,15 @@
-use Rattle.std.proofs.Common.{◌≡◌, ℕ, ◌<◌, Bool, false, length, get_or, set, sym, refl, ap, ◌∙◌, subst, rules}
+use Rattle.std.proofs.Common.{◌≡◌, ℕ, ◌<◌, false, length, get_or, sym, refl, ap, ◌∙◌, subst, rules}
 use borrow.Author.Rules.{get_or_read}
 use Rattle.model.specs.Checks.Call.{commit}
-use Rattle.model.specs.Effects.{seals, seat_after, with_new_block}
+use Rattle.model.specs.Effects.{seals, seat_after}
 use Rattle.messages.specs.Stored.{stored}
 use Rattle.plans.specs.Planned.{model}
-use Rattle.tree.specs.Blocks.{mades, parents, payloads}
 use Rattle.seats.specs.declared.seat.Seat.{Seat}
 use Rattle.seats.specs.Seated.{seated, pooled}
 use Rattle.seats.specs.Faults.{told}
 use Rattle.seats.specs.Sent.{sent}
-use Rattle.seats.specs.Desk.{desk, bare_desk, accepts, Rule, Makes}
+use Rattle.seats.specs.Desk.{bare_desk, accepts, Rule}
 use Rattle.hall.specs.Worlds.{world, no_seat}
-use Rattle.hall.specs.Steps.{ruled}
 use Rattle.hall.proofs.Updates.{written, settled, cond_same}
 use Rattle.hall.proofs.Updates.{no_seals}
 use Rattle.hall.proofs.hall.Hall.run_commit.Goals as goal

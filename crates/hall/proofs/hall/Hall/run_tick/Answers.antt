@@ -1,6 +1,5 @@
-use Rattle.std.proofs.Common.{◌≡◌, ℕ, ◌<◌, Bool, true, false, cond, ◌&&◌, leb, List, [], length, get_or, set, Ok, Err, Result, sym, refl, ap, ◌∙◌, subst, rules}
+use Rattle.std.proofs.Common.{◌≡◌, ℕ, ◌<◌, Bool, true, false, cond, ◌&&◌, leb, [], length, get_or, Ok, Err, Result, sym, refl, ap, ◌∙◌, subst, rules}
 use borrow.Author.Rules.{get_or_read}
-use Rattle.model.specs.Checks.{Verdict}
 use Rattle.model.specs.Checks.Verdict.{accepted, refused}
 use Rattle.model.specs.Checks.Call.{tick}
 use Rattle.model.specs.Effects.{is_accepted, seals, seat_after}

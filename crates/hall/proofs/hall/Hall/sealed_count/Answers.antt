@@ -1,4 +1,4 @@
-use Rattle.std.proofs.Common.{◌≡◌, ℕ, ◌+◌, ◌<◌, ◌≤◌, Bool, true, false, cond, sym, ap, ◌∙◌, add-one, arith}
+use Rattle.std.proofs.Common.{◌≡◌, ℕ, ◌+◌, Bool, cond, sym, ap, add-one, arith}
 use Rattle.basics.specs.Count.{tally}
 use Rattle.basics.proofs.CountLaws.{tally_le}
 use Rattle.hall.proofs.hall.Hall.sealed_count.Goals as goal

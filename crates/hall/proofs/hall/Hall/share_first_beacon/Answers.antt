@@ -1,12 +1,11 @@
-use Rattle.std.proofs.Common.{◌≡◌, ℕ, ◌<◌, Bool, true, cond, List, [], ◌∷◌, length, get_or, sym, refl, ap, ◌∙◌, ap₂, arith, rules}
+use Rattle.std.proofs.Common.{◌≡◌, ◌<◌, true, List, [], ◌∷◌, length, get_or, sym, refl, ap, ◌∙◌, ap₂, arith, rules}
 use borrow.Author.Rules.{get_or_read}
 use Rattle.std.proofs.lemmas.Bool.{cond-true}
 use Rattle.model.specs.Setup.{honest}
-use Rattle.model.specs.World.{World, message, beacon_share}
+use Rattle.model.specs.World.{message, beacon_share}
 use Rattle.model.specs.World.{Message as Said}
 use Rattle.messages.specs.Stored.{stored, joined}
 use Rattle.plans.specs.Planned.{model}
-use Rattle.tree.specs.Blocks.{mades, parents, payloads}
 use Rattle.seats.specs.declared.seat.Seat.{Seat}
 use Rattle.seats.specs.Seated.{seated, pooled}
 use Rattle.seats.specs.Sent.{with_all}

@@ -1,5 +1,5 @@
 -- No line feed stands past the end.
-use Rattle.std.proofs.Common.{◌≡◌, eqb, sym, ap, arith}
+use Rattle.std.proofs.Common.{eqb, sym, ap, arith}
 use Rattle.std.proofs.lemmas.List.{get_or_past}
 use Rattle.lines.proofs.reader.reading.has_feed.Goals as goal
 

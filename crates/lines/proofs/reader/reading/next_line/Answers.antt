@@ -1,5 +1,5 @@
 -- A line feed ends the search; without one the text ends.
-use Rattle.std.proofs.Common.{◌≡◌, ℕ, ◌+◌, ◌<◌, length, drop, sym, refl, ap, ◌∙◌, arith}
+use Rattle.std.proofs.Common.{length, sym, ◌∙◌, arith}
 use Rattle.std.proofs.lemmas.List.{at_drop_all, drop_all}
 use Rattle.lines.specs.Lines.{later}
 use Rattle.lines.proofs.LineLaws.{feed_here, feed_later}

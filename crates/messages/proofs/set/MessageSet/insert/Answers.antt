@@ -1,6 +1,6 @@
-use Rattle.std.proofs.Common.{◌≡◌, ℕ, ◌<◌, ◌≤◌, true, length, get_or, set, sym, ap, ◌∙◌, subst, ap₂, arith, rules}
+use Rattle.std.proofs.Common.{◌≡◌, ℕ, ◌<◌, ◌≤◌, true, length, get_or, set, ap, ◌∙◌, subst, ap₂, arith, rules}
 use Rattle.basics.specs.Bit.{bit}
-use Rattle.basics.specs.Put.{put, put_below}
+use Rattle.basics.specs.Put.{put}
 use Rattle.basics.proofs.BitLaws.{put_inside}
 use Rattle.messages.specs.Meaning.{means}
 use Rattle.messages.specs.Rows.{row}

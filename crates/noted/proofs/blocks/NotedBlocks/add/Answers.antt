@@ -1,5 +1,5 @@
 -- The bounds hold of the new flag and of those before.
-use Rattle.std.proofs.Common.{◌≡◌, ℕ, ◌<◌, ◌≤◌, true, false, ◌⊎◌, get_or, set, inl, inr, arith}
+use Rattle.std.proofs.Common.{◌<◌, ◌≤◌, true, set, inl, inr, arith}
 use Rattle.noted.specs.Flags.{Raised}
 use Rattle.noted.proofs.Searches.{raised_one}
 use Rattle.noted.proofs.blocks.NotedBlocks.add.Goals as goal

@@ -1,5 +1,5 @@
 -- Nothing is found before the lowest noted block, nor after the highest.
-use Rattle.std.proofs.Common.{◌≡◌, ℕ, ◌<◌, ◌≤◌, min, Bool, false, not, ◌&&◌, eqb, get_or, sym, ap, ◌∙◌, subst, arith}
+use Rattle.std.proofs.Common.{◌≡◌, ℕ, ◌<◌, Bool, false, not, ◌&&◌, eqb, get_or, sym, ap, ◌∙◌, arith}
 use Rattle.model.specs.Setup.{numbers}
 use Rattle.model.proofs.Searches.{find, none_more}
 use Rattle.plans.specs.Planned.{model}

@@ -1,5 +1,5 @@
 -- No flag is raised.
-use Rattle.std.proofs.Common.{◌≡◌, ℕ, ◌<◌, Bool, true, false, get_or, replicate, sym, refl, ◌∙◌, arith}
+use Rattle.std.proofs.Common.{false, get_or, replicate, arith}
 use Rattle.model.proofs.Tests.{not_both}
 use Rattle.noted.proofs.Searches.{lowered}
 use Rattle.noted.proofs.blocks.NotedBlocks.none.Goals as goal

@@ -1,4 +1,4 @@
-use Rattle.std.proofs.Common.{◌≡◌, ℕ, ◌+◌, ◌*◌, ◌≤◌, List, replicate, Ok, Err, sym, ap, ◌∙◌, subst, arith}
+use Rattle.std.proofs.Common.{◌≡◌, ℕ, replicate, Ok, sym, ap, ◌∙◌, subst, arith}
 use Rattle.plans.specs.Tables.{rank_in, RanksBelow, RanksApart}
 use Rattle.plans.specs.Setup.{drawn_rank, planned}
 use Rattle.plans.proofs.Drawn.{rank_taken, ranks_below, ranks_apart}

@@ -1,4 +1,4 @@
-use Rattle.std.proofs.Common.{◌≡◌, ℕ, ◌+◌, ◌-◌, ◌*◌, ◌<◌, ◌≤◌, min, sym, refl, ap, ◌∙◌, ap₂, mul-le-mul, arith}
+use Rattle.std.proofs.Common.{◌≡◌, ℕ, ◌-◌, ◌*◌, ◌≤◌, ap, mul-le-mul, arith}
 use Rattle.plans.proofs.plan.Plan.number.Goals as goal
 
 pub overflow_mul-pair-2 : goal.overflow_mul-pair-2

@@ -1,4 +1,4 @@
-use Rattle.std.proofs.Common.{◌≡◌, ℕ, ◌+◌, ◌-◌, ◌*◌, ◌<◌, ◌≤◌, min, true, ◌&&◌, ltb, leb, get_or, sym, ap, ◌∙◌, ap₂, arith}
+use Rattle.std.proofs.Common.{◌≡◌, ◌+◌, ◌-◌, ◌*◌, ◌<◌, ◌≤◌, true, ◌&&◌, ltb, leb, get_or, sym, ◌∙◌, ap₂, arith}
 use Rattle.std.proofs.lemmas.Bool.{cond-true, and_from, le-leb, lt-ltb}
 use Rattle.plans.specs.Tables.{rank_in}
 use Rattle.draws.specs.Ranks.{drawn}

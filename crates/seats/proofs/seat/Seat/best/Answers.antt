@@ -1,6 +1,5 @@
-use Rattle.std.proofs.Common.{◌≡◌, ℕ, ◌+◌, ◌*◌, ◌<◌, Bool, true, false, Some, None, sym, ap, ◌∙◌, arith}
+use Rattle.std.proofs.Common.{◌≡◌, ℕ, ◌+◌, ◌*◌, ◌<◌, true, false, Some, sym, ap, ◌∙◌, arith}
 use Rattle.basics.specs.Count.{some_below}
-use Rattle.basics.specs.Numbers.{only_if}
 use Rattle.model.proofs.Searches.{none_more}
 use Rattle.plans.specs.Planned.{model}
 use Rattle.seats.specs.Searches.{better_in, block_of_rank}

@@ -1,4 +1,4 @@
-use Rattle.std.proofs.Common.{◌≡◌, ℕ, ◌+◌, ◌*◌, ◌≤◌, false}
+use Rattle.std.proofs.Common.{◌≡◌, ◌+◌, ◌*◌, false}
 use Rattle.basics.specs.Count.{some_below}
 use Rattle.plans.specs.Planned.{model}
 use Rattle.seats.proofs.Finds.{better_nth}

@@ -1,4 +1,4 @@
-use Rattle.std.proofs.Common.{◌≡◌, sym, ap, ◌∙◌}
+use Rattle.std.proofs.Common.{sym, ap}
 use Rattle.basics.specs.Numbers.{only_if}
 use Rattle.plans.specs.Planned.{model}
 use Rattle.plans.proofs.Lawfulness.{plan_is_lawful}

@@ -1,4 +1,4 @@
-use Rattle.std.proofs.Common.{◌≡◌, ℕ, List, sym, refl, ap, ◌∙◌}
+use Rattle.std.proofs.Common.{List, refl, ap, ◌∙◌}
 use Rattle.model.specs.Checks.Call.{enter}
 use Rattle.model.specs.World.{Message as Said}
 use Rattle.plans.specs.Planned.{model}

@@ -1,4 +1,4 @@
-use Rattle.std.proofs.Common.{◌≡◌, ℕ, ◌≤◌, List, [], ◌∷◌, sym, refl, ap, ◌∙◌}
+use Rattle.std.proofs.Common.{List, ◌∷◌, ap, ◌∙◌}
 use Rattle.model.specs.Checks.Call.{finish}
 use Rattle.model.specs.World.{notarization}
 use Rattle.model.specs.World.{Message as Said}

@@ -1,5 +1,4 @@
 use Rattle.std.proofs.Common.{◌≡◌, ℕ, Bool, false, [], get_or, replicate, refl}
-use Rattle.basics.specs.Bit.{bit}
 use Rattle.basics.proofs.BitLaws.{bit_none}
 use Rattle.tree.proofs.Unmade.{each_repeated}
 use Rattle.model.specs.World.Phase.{waiting}

@@ -1,4 +1,4 @@
-use Rattle.std.proofs.Common.{◌≡◌, ◌<◌, ◌≤◌, ◌∙◌, arith, rules}
+use Rattle.std.proofs.Common.{◌≡◌, ◌∙◌, arith, rules}
 use Rattle.plans.specs.Planned.{model}
 use Rattle.model.specs.Checks.Verdict.{accepted, refused}
 use Rattle.seats.proofs.Judged.{commit_judged, commit_judged_is}

@@ -1,4 +1,4 @@
-use Rattle.std.proofs.Common.{◌≡◌, ℕ, ◌<◌, ◌≤◌, Bool, false, not, ◌&&◌, eqb, get_or, sym, ap, ◌∙◌, subst, arith}
+use Rattle.std.proofs.Common.{◌≡◌, ℕ, ◌<◌, Bool, false, ◌&&◌, eqb, get_or, sym, ap, ◌∙◌, subst, arith}
 use Rattle.basics.specs.Count.{some_below}
 use Rattle.model.specs.Setup.{rank_of, numbers}
 use Rattle.model.specs.Setup.{Plan as Model}

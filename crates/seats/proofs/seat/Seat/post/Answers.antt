@@ -1,4 +1,4 @@
-use Rattle.std.proofs.Common.{◌≡◌, ◌++◌, refl, ap, ◌∙◌, append_assoc}
+use Rattle.std.proofs.Common.{◌++◌, ap, ◌∙◌, append_assoc}
 use Rattle.messages.specs.Stored.{stored}
 use Rattle.seats.specs.Seated.{pooled}
 use Rattle.seats.specs.Sent.{maybe, with_all}

@@ -1,4 +1,4 @@
-use Rattle.std.proofs.Common.{◌≡◌, sym, ap, ◌∙◌}
+use Rattle.std.proofs.Common.{sym, ap, ◌∙◌}
 use Rattle.messages.specs.Meaning.{means}
 use Rattle.messages.specs.Stored.{stored}
 use Rattle.seats.specs.Seated.{pooled}

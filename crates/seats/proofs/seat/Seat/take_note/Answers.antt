@@ -1,5 +1,5 @@
-use Rattle.std.proofs.Common.{◌≡◌, ℕ, Bool, true, false, cond, List, [], ◌∷◌, sym, refl, ap, ◌∙◌, ap₂}
-use Rattle.std.proofs.lemmas.Bool.{cond-true, cond-false}
+use Rattle.std.proofs.Common.{◌≡◌, false, [], ◌∷◌, sym, refl, ap, ◌∙◌, ap₂}
+use Rattle.std.proofs.lemmas.Bool.{cond-false}
 use Rattle.model.specs.Setup.{rank_of}
 use Rattle.model.specs.World.{notarization_share}
 use Rattle.model.specs.Seats.{noting, disqualifying}

@@ -1,4 +1,4 @@
-use Rattle.std.proofs.Common.{◌≡◌, ℕ, ◌-◌, ◌<◌, ◌≤◌, List, ◌++◌, length, take, drop, set, sym, ap, ◌∙◌, ap₂, arith}
+use Rattle.std.proofs.Common.{◌≡◌, ℕ, ◌-◌, ◌≤◌, ◌++◌, length, take, drop, set, ap, ◌∙◌, arith}
 use Rattle.model.specs.World.{chain_by}
 use Rattle.tree.specs.Blocks.{parents}
 use Rattle.seats.proofs.Chains.{chain_written, chain_block}

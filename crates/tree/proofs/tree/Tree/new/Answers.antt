@@ -1,4 +1,4 @@
-use Rattle.std.proofs.Common.{◌≡◌, ℕ, Bool, false, List, [], refl, arith}
+use Rattle.std.proofs.Common.{◌≡◌, ℕ, false, [], refl, arith}
 use Rattle.tree.specs.Payloads.{listed}
 use Rattle.tree.specs.Blocks.{no_block}
 use Rattle.tree.specs.declared.tree.Block.{Block}

@@ -1,4 +1,4 @@
-use Rattle.std.proofs.Common.{◌≡◌, ◌≤◌}
+use Rattle.std.proofs.Common.{◌≡◌}
 use Rattle.messages.specs.Stored.{stored}
 use Rattle.plans.specs.Planned.{model}
 use Rattle.tree.specs.Blocks.{notarized_in}

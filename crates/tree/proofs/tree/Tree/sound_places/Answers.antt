@@ -1,10 +1,9 @@
-use Rattle.std.proofs.Common.{◌≡◌, ℕ, ◌+◌, ◌-◌, ◌*◌, ◌<◌, ◌≤◌, Bool, true, false, not, ◌&&◌, ltb, List, length, get_or, take, drop, sym, refl, ap, ◌∙◌, ap₂, inl, inr, arith, rules}
+use Rattle.std.proofs.Common.{◌≡◌, ℕ, ◌-◌, ◌<◌, ◌≤◌, Bool, true, false, List, length, get_or, take, sym, ap, ◌∙◌, inl, inr, arith}
 use Rattle.std.proofs.lemmas.Bool.{lt-ltb, le-ltb}
-use Rattle.model.specs.World.{unlike_all, sound}
+use Rattle.model.specs.World.{unlike_all}
 use Rattle.model.specs.Setup.{Plan as Model}
-use Rattle.messages.specs.Stored.{stored}
 use Rattle.plans.specs.Planned.{model}
-use Rattle.tree.specs.Blocks.{chain_places, parents, payloads, notarized_in, valid_in, sound_block}
+use Rattle.tree.specs.Blocks.{chain_places}
 use Rattle.tree.proofs.WalkSteps.{sound_start, sound_stop, sound_on, sound_end}
 use Rattle.tree.proofs.tree.Tree.sound_places.Goals as goal
 

@@ -1,9 +1,7 @@
-use Rattle.std.proofs.Common.{◌≡◌, ℕ, ◌+◌, ◌-◌, ◌*◌, ◌<◌, ◌≤◌, Bool, true, false, not, ◌&&◌, length, get_or, take, drop, sym, refl, ap, ◌∙◌, ap₂, inl, inr, arith, rules}
-use Rattle.std.proofs.lemmas.Bool.{lt-ltb, le-ltb}
-use Rattle.model.specs.World.{unlike_all, sound}
-use Rattle.messages.specs.Stored.{stored}
+use Rattle.std.proofs.Common.{◌≡◌, sym, ap, ◌∙◌, arith}
+use Rattle.model.specs.World.{unlike_all}
 use Rattle.plans.specs.Planned.{model}
-use Rattle.tree.specs.Blocks.{chain_places, parents, payloads, notarized_in, valid_in, sound_block}
+use Rattle.tree.specs.Blocks.{chain_places}
 use Rattle.tree.proofs.WalkSteps.{unlike_stop, unlike_on, unlike_chain_end}
 use Rattle.tree.proofs.tree.Tree.unlike_chain.Goals as goal
 

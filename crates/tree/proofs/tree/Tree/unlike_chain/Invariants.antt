@@ -1,4 +1,4 @@
-use Rattle.std.proofs.Common.{◌≡◌, ◌≤◌}
+use Rattle.std.proofs.Common.{◌≡◌}
 use Rattle.model.specs.World.{unlike_all}
 use Rattle.plans.specs.Planned.{model}
 use Rattle.tree.specs.Blocks.{chain_places}

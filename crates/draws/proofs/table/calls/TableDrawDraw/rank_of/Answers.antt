@@ -1,5 +1,5 @@
 -- The cell is inside the table, and its rank below 13.
-use Rattle.std.proofs.Common.{◌≡◌, ℕ, ◌∙◌, ap₂, arith}
+use Rattle.std.proofs.Common.{◌∙◌, ap₂}
 use Rattle.draws.specs.Ranks.{answered, table_rank}
 use Rattle.draws.proofs.Judging.{cell_fits, cell_answered}
 use Rattle.draws.proofs.table.calls.TableDrawDraw.rank_of.Goals as goal

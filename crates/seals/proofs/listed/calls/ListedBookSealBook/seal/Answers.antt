@@ -1,5 +1,5 @@
 -- A seal that is there changes nothing; a new one always finds room.
-use Rattle.std.proofs.Common.{◌≡◌, ℕ, ◌<◌, ◌≤◌, true, false, cond, not, ◌&&◌, List, [], ◌∷◌, ◌++◌, length, sym, refl, ap, ◌∙◌, subst, inr, arith}
+use Rattle.std.proofs.Common.{◌≡◌, ℕ, ◌<◌, ◌≤◌, true, false, cond, not, List, [], ◌∷◌, ◌++◌, length, sym, refl, ap, ◌∙◌, subst, inr, arith}
 use Rattle.std.proofs.lemmas.Bool.{and_from, and_right, lt-ltb, not_from_true, not_from_false}
 use Rattle.basics.specs.Contents.{contents, room}
 use Rattle.seals.specs.declared.record.SealRecord.{SealRecord}
