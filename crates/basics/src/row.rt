@@ -1,4 +1,4 @@
-//! Sets of numbers below 128 as masks: a row of a table of likeness, or the places of a chain.
+//! Sets of numbers below 128 as masks: a row of a table of likeness, or a set of places.
 ghost use Rattle.std.specs.Prelude.{◌≡◌, true};
 ghost use Rattle.basics.specs.Bit.{bit, Meets};
 ghost use Rattle.basics.specs.Put.{put_below};

@@ -1,5 +1,5 @@
 //! A seat at the opening, its clock, and what can be read of it.
-ghost use Rattle.std.specs.Prelude.{◌≡◌, ℕ, ◌≤◌, Bool, true, false, ◌&&◌, leb, [], length, if◌then◌else◌, Ok, Err, nat_le};
+ghost use Rattle.std.specs.Prelude.{◌≡◌, ℕ, ◌≤◌, Bool, true, false, ◌&&◌, [], length, if◌then◌else◌, Ok, Err, nat_le};
 ghost use Rattle.basics.specs.Put.{put};
 ghost use Rattle.model.specs.World.{message};
 ghost use Rattle.model.specs.Checks.{is_in_round, is_waiting};
@@ -106,7 +106,7 @@ impl Seat {
 
     /// What setting the clock to this time would answer: a clock never goes back, nor past 1,000,000,000.
     pub fn may_tick(&self, time: u32) -> Result<(), SeatFault>
-        ensures { result ≡ (if leb self.now.clock time && nat_le time 1000000000 then Ok tt else Err Clock) }
+        ensures { result ≡ (if nat_le self.now.clock time && nat_le time 1000000000 then Ok tt else Err Clock) }
     {
         if time < self.clock || time > 1000000000 {
             return Err(SeatFault::Clock);
@@ -116,8 +116,8 @@ impl Seat {
 
     /// Sets the clock.
     pub fn tick(&mut self, time: u32) -> Result<(), SeatFault>
-        ensures answer { result ≡ (if leb self.old.clock time && nat_le time 1000000000 then Ok tt else Err Clock) }
-        ensures seat { seated self.new ≡ (if leb self.old.clock time && nat_le time 1000000000 then at_clock time (seated self.old) else seated self.old) }
+        ensures answer { result ≡ (if nat_le self.old.clock time && nat_le time 1000000000 then Ok tt else Err Clock) }
+        ensures seat { seated self.new ≡ (if nat_le self.old.clock time && nat_le time 1000000000 then at_clock time (seated self.old) else seated self.old) }
         ensures pool { self.new.pool ≡ self.old.pool }
     {
         self.may_tick(time)?;
