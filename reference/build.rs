@@ -14,7 +14,7 @@ fn main() {
     };
     println!("cargo:rerun-if-changed={}", library.display());
     if !library.exists() {
-        println!("cargo:warning={} is missing; `rt staticlib halls` makes it", library.display());
+        println!("cargo:warning={} is missing; `scripts/staticlib` makes it", library.display());
     }
     for program in PROGRAMS {
         println!("cargo:rustc-link-arg-bin={program}={}", library.display());

@@ -185,7 +185,7 @@ fn show_trouble(options: &Options, seed: u64, trouble: &Trouble) {
             }
         }
     }
-    println!("the smallest paper found that shows it, for `target/bin/examine {} FILE`:", small.sort.name());
+    println!("the smallest paper found that shows it, for `crates/examine/out/examine {} FILE`:", small.sort.name());
     std::io::stdout().write_all(&small.text).expect("standard output takes it");
 }
 
