@@ -1,6 +1,6 @@
 //! Compares the compiled library with this program, submission by submission, and watches the promises meanwhile.
 //!
-//!   compare                        as the gate does: 40,000 submissions, at least 20,000 if time runs out; every possible pair must come
+//!   compare                        as scripts/compare does: 40,000 submissions, at least 20,000 if time runs out; every possible pair must come
 //!   compare --seeds N              the submissions of seeds 0 to N - 1
 //!   compare --seeds FROM..TO       the submissions of seeds FROM to TO - 1
 //!   compare --print SEED           writes the submission of a seed to standard output and its hall to standard error
