@@ -4,4 +4,5 @@
 pub mod list;
 pub mod mask;
 pub mod numbers;
+pub mod ranged;
 pub mod row;

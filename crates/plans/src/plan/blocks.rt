@@ -4,7 +4,7 @@ ghost use Rattle.model.specs.Setup.{Lawful, numbers, number, round_of, maker_of,
 ghost use Rattle.model.specs.World.{unlike_all};
 ghost use Rattle.plans.specs.Planned.{model, held_by};
 ghost use Rattle.plans.specs.Places.{SetOf, can_follow};
-ghost use Rattle.basics.specs.Numbers.{seat_value};
+ghost use Rattle.basics.specs.Numbers.{number_value};
 
 use super::Plan;
 use basics::numbers::{BlockNumber, Rank, Round, SeatIndex};
@@ -116,7 +116,7 @@ impl Plan {
 
     /// The seat that has this rank in the round, if one has.
     pub fn holder(&self, round: Round, rank: Rank) -> Option<SeatIndex>
-        ensures { seat_value result ≡ held_by (model self.now) round.value rank.value }
+        ensures { number_value result ≡ held_by (model self.now) round.value rank.value }
     {
         for s in 0..self.seats {
             let seat = SeatIndex::capped(s);
