@@ -42,6 +42,10 @@ bit_past w m i h past =
     ap_le : {a b : ℕ} → a ≡ b → a ≤ b
     ap_le e = omega arith
 
+-- past the width the test `i < w` says as much
+pub no_digit : (w m i : ℕ) → m < 2 ^ w → w ≤ i → ltb i w ≡ bit m i
+no_digit w m i h past = le-ltb i w past ∙ sym (bit_past w m i h past)
+
 -- the digit that `>>` and `& 1` read
 pub bit_read : (m i : ℕ) → eqb (bit_and (m / 2 ^ i) 1) 1 ≡ bit m i
 unfolding bit

@@ -5,4 +5,3 @@ pub mod list;
 pub mod mask;
 pub mod numbers;
 pub mod ranged;
-pub mod row;
