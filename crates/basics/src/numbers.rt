@@ -64,7 +64,8 @@ impl Kind for RoundKind {
 }
 
 /// The number of a block; 0 is the root.
-// Not a `Number`, since its numbers take two bytes.
+// Not a `Number`, since it takes two bytes: a `Kind` with a word type would need that word's order as a law, which
+// is longer than these three methods.
 #[derive(Clone, Copy, Debug, PartialEq, Eq)]
 pub struct BlockNumber {
     value: u16,
