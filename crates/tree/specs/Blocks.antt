@@ -1,6 +1,5 @@
 -- The blocks that a tree holds.
-use Rattle.std.specs.Prelude.{ℕ, ◌-◌, Bool, false, List, [], slice_index_or}
-use Rattle.std.proofs.Common.{arith}
+use Rattle.std.specs.Prelude.{ℕ, ◌-◌, Bool, List, [], Option, Some, None, is_some, slice_index_or}
 use Rattle.model.specs.Setup.{Plan as Model}
 use Rattle.model.specs.World.{chain_by, places_by, sound, notarized_by, valid_by}
 use Rattle.model.specs.World.{Message as Said}
@@ -8,25 +7,31 @@ use Rattle.tree.specs.Payloads.{listed}
 use Rattle.tree.specs.declared.tree.Block.{Block}
 use Rattle.tree.specs.declared.tree.Tree.{Tree}
 
--- a block that was not made
-abbrev pub no_block : Block
-no_block = record {
-  made = false;
-  parent = record { value = 0; low = omega arith };
-  payload = record { places = []; count = 0; few = omega arith };
-}
+-- the block of a number, if it was made
+abbrev pub block_at : Tree → ℕ → Option Block
+block_at x b = slice_index_or x.blocks b None
+
+-- the parent of a block, the root where none was made
+abbrev pub parent_of : Option Block → ℕ
+parent_of None = 0
+parent_of (Some x) = x.parent.value
+
+-- the places of a block, none where none was made
+abbrev pub places_of : Option Block → List ℕ
+places_of None = []
+places_of (Some x) = listed x.payload
 
 -- whether a block was made
 abbrev pub mades : Tree → ℕ → Bool
-mades x b = (slice_index_or x.blocks b no_block).made
+mades x b = is_some (block_at x b)
 
 -- its parent
 abbrev pub parents : Tree → ℕ → ℕ
-parents x b = (slice_index_or x.blocks b no_block).parent.value
+parents x b = parent_of (block_at x b)
 
 -- its places
 abbrev pub payloads : Tree → ℕ → List ℕ
-payloads x b = listed (slice_index_or x.blocks b no_block).payload
+payloads x b = places_of (block_at x b)
 
 -- the places of the chain of a block of round k
 unfoldable pub chain_places : Tree → ℕ → ℕ → List ℕ
