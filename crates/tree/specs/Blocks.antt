@@ -1,7 +1,7 @@
 -- The blocks that a tree holds.
-use Rattle.std.specs.Prelude.{ℕ, ◌-◌, Bool, List, [], Option, Some, None, is_some, slice_index_or}
+use Rattle.std.specs.Prelude.{ℕ, Bool, List, [], Option, Some, None, is_some, slice_index_or}
 use Rattle.model.specs.Setup.{Plan as Model}
-use Rattle.model.specs.World.{chain_by, places_by, sound, notarized_by, valid_by}
+use Rattle.model.specs.World.{chain_by, places_by, notarized_by, valid_by}
 use Rattle.model.specs.World.{Message as Said}
 use Rattle.tree.specs.Payloads.{listed}
 use Rattle.tree.specs.declared.tree.Block.{Block}
@@ -36,10 +36,6 @@ payloads x b = places_of (block_at x b)
 -- the places of the chain of a block of round k
 unfoldable pub chain_places : Tree → ℕ → ℕ → List ℕ
 chain_places x k b = places_by (payloads x) (chain_by (parents x) k b)
-
--- whether the payload of a block of round k is sound on its parent's chain
-unfoldable pub sound_block : Model → Tree → ℕ → ℕ → Bool
-sound_block p x k b = sound p (chain_places x (k - 1) (parents x b)) (payloads x b)
 
 -- whether a block of round k is notarized, as far as a pool says
 unfoldable pub notarized_in : Model → Tree → (Said → Bool) → ℕ → ℕ → Bool

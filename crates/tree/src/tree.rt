@@ -55,6 +55,16 @@ impl Tree {
         self.blocks[block.value() as usize].map_or(Payload::empty(), |made| made.payload)
     }
 
+    // the places of a block; none for a block that was not made
+    fn places(&self, block: BlockNumber) -> &[u8]
+        ensures { result.now ≡ payloads self.now block.value }
+    {
+        match &self.blocks[block.value() as usize] {
+            Some(made) => made.payload.as_slice(),
+            None => &[],
+        }
+    }
+
     /// Makes the block.
     pub fn make(&mut self, block: BlockNumber, parent: BlockNumber, payload: Payload)
         ensures made { mades self.new ≡ put block.value true (mades self.old) }

@@ -1,4 +1,4 @@
-use Rattle.std.proofs.Common.{◌≡◌, ℕ, zero, suc, Option, None, is_some, get_or, replicate, refl, ap}
+use Rattle.std.proofs.Common.{◌≡◌, ℕ, zero, suc, Option, None, is_some, get_or, replicate, refl}
 use Rattle.tree.specs.Blocks.{parent_of, places_of}
 use Rattle.tree.specs.declared.tree.Block.{Block}
 use Rattle.tree.proofs.tree.Tree.new.Goals as goal
