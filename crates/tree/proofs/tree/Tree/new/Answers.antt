@@ -1,15 +1,17 @@
-use Rattle.std.proofs.Common.{◌≡◌, ℕ, false, [], refl, arith}
-use Rattle.tree.specs.Payloads.{listed}
-use Rattle.tree.specs.Blocks.{no_block}
+use Rattle.std.proofs.Common.{◌≡◌, ℕ, zero, suc, Option, None, is_some, get_or, replicate, refl}
+use Rattle.tree.specs.Blocks.{parent_of, places_of}
 use Rattle.tree.specs.declared.tree.Block.{Block}
-use Rattle.tree.proofs.Unmade.{each_repeated}
 use Rattle.tree.proofs.tree.Tree.new.Goals as goal
 
+-- a table of no block has none at any place
+no_block : (n k : ℕ) → get_or {A = Option Block} (replicate n None) k None ≡ None
+no_block zero k = refl
+no_block (suc n) zero = refl
+no_block (suc n) (suc k) = no_block n k
+
 pub returns : goal.returns
-returns c =
-    let x : Block = record { made = false; parent = c.capped.result; payload = c.empty.result } in
-    let root : c.capped.result.value ≡ 0 = omega (arith, c.capped.ensures) in
-    let made : (k : ℕ) → _ = each_repeated (λ (b : Block). b.made) x no_block false refl refl 313 in
-    let parent : (k : ℕ) → _ = each_repeated (λ (b : Block). b.parent.value) x no_block 0 root refl 313 in
-    let places : (k : ℕ) → _ = each_repeated (λ (b : Block). listed b.payload) x no_block [] c.empty.ensures refl 313 in
-    record { made = λ i k. made k i; parent = λ i k. parent k i; places = λ i k. places k i }
+returns c = record {
+  made = λ i k. is_some {T = Block} (no_block 313 k i);
+  parent = λ i k. parent_of (no_block 313 k i);
+  places = λ i k. places_of (no_block 313 k i);
+}
