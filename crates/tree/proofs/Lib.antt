@@ -1,3 +1,4 @@
--- The lemmas about walks from a block to the root and about lists.
+-- The lemmas about walks from a block to the root, about tables and about lists.
 pub mod WalkSteps
+pub mod Unmade
 pub mod SameLists
