@@ -5,7 +5,7 @@ use basics::numbers::BlockNumber;
 mod walks;
 
 /// A block that was made: its parent and its payload.
-#[derive(Clone, Copy)]
+#[derive(Clone, Copy, Debug, PartialEq, Eq)]
 pub struct Block {
     parent: BlockNumber,
     payload: Payload,
