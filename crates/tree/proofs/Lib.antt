@@ -1,3 +1,3 @@
--- The lemmas about walks from a block to the root and about lists.
+-- The lemmas about walks from a block to the root and about tables.
 pub mod WalkSteps
-pub mod SameLists
+pub mod Unmade

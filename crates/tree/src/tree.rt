@@ -5,14 +5,14 @@ use basics::numbers::BlockNumber;
 mod walks;
 
 /// A block that was made: its parent and its payload.
-#[derive(Clone, Copy)]
+#[derive(Clone, Copy, Debug, PartialEq, Eq)]
 pub struct Block {
     parent: BlockNumber,
     payload: Payload,
 }
 
 /// The blocks by number, those that were made. The root, 0, is never made: it is always there.
-#[derive(Clone, Copy)]
+#[derive(Clone, Copy, Debug, PartialEq, Eq)]
 pub struct Tree {
     blocks: [Option<Block>; 313],
 }
