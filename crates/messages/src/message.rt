@@ -43,3 +43,32 @@ pub enum Message {
     Notarization(BlockNumber),
     Finalization(BlockNumber),
 }
+
+impl Message {
+    ghost use Rattle.std.specs.Prelude.{◌≡◌};
+    ghost use Rattle.messages.specs.Meaning.{means};
+
+    /// The kind of the message, from 1 to 6.
+    pub fn kind(self) -> u8
+        ensures { result ≡ (means self).kind }
+    {
+        match self {
+            Message::Block(_) => 1,
+            Message::Signed(share, _) => share.kind(),
+            Message::Notarization(_) => 3,
+            Message::Finalization(_) => 5,
+        }
+    }
+
+    /// What the message is about: the number of its block, or of a beacon's round.
+    pub fn subject(self) -> u16
+        ensures { result ≡ (means self).subject }
+    {
+        match self {
+            Message::Block(block) => block.value(),
+            Message::Signed(share, _) => share.subject(),
+            Message::Notarization(block) => block.value(),
+            Message::Finalization(block) => block.value(),
+        }
+    }
+}
