@@ -19,28 +19,20 @@ use Rattle.messages.specs.declared.message.Message.TheVariants.{Block, Signed, N
 use Rattle.messages.specs.declared.message.Share.TheVariants.{Beacon}
 use Rattle.messages.specs.declared.message.Share.TheVariants.{Notarization as Notarizes, Finalization as Finalizes}
 
-fits_block : (k x : ℕ) → 1 ≤ k → k < 6 → x ≤ 312 → subject_fits k x ≡ true
-fits_block k x lo hi h = grind (arith, nat_tests)
-
-fits_round : (x : ℕ) → 1 ≤ x → x ≤ 8 → subject_fits 6 x ≡ true
-fits_round x lo hi = grind (arith, nat_tests)
-
 -- a share of the code is one that there can be
 pub share_fits : (x : Share) → subject_fits (share_kind x) (share_subject x) ≡ true
-share_fits (Notarizes b) = fits_block 2 b.value (omega arith) (omega arith) b.low
-share_fits (Finalizes b) = fits_block 4 b.value (omega arith) (omega arith) b.low
-share_fits (Beacon k) = fits_round k.value k.first k.last
+share_fits (Notarizes b) = let h = b.low in grind (arith, nat_tests)
+share_fits (Finalizes b) = let h = b.low in grind (arith, nat_tests)
+share_fits (Beacon k) = let h = k.first in let g = k.last in grind (arith, nat_tests)
 
 -- and so is a message
 pub message_fits : (m : Message) → subject_fits (means m).kind (means m).subject ≡ true
-message_fits (Block b) = fits_block 1 b.value (omega arith) (omega arith) b.low
+message_fits (Block b) = let h = b.low in grind (arith, nat_tests)
 message_fits (Signed x s) = share_fits x
-message_fits (Notarization b) = fits_block 3 b.value (omega arith) (omega arith) b.low
-message_fits (Finalization b) = fits_block 5 b.value (omega arith) (omega arith) b.low
+message_fits (Notarization b) = let h = b.low in grind (arith, nat_tests)
+message_fits (Finalization b) = let h = b.low in grind (arith, nat_tests)
 
-row_apart : (k x k' x' : ℕ) → subject_fits k x ≡ true → subject_fits k' x' ≡ true → row k x ≡ row k' x' → (k ≡ k') × (x ≡ x')
-row_apart k x k' x' h h' e = (grind (arith, nat_tests), grind (arith, nat_tests))
-
+-- two messages that there can be share a row only where kind and subject are the same
 row_eq : (k x k' x' : ℕ) → subject_fits k x ≡ true → subject_fits k' x' ≡ true → eqb (row k x) (row k' x') ≡ (eqb k k' && eqb x x')
 row_eq k x k' x' h h' = grind (arith, nat_tests)
 

@@ -61,8 +61,8 @@ impl MessageSet {
         self.rows[at] = mask::with(old, bit_of(m));
     }
 
-    #[tactic(auto, using(crate::proofs::RowLaws::row_count, crate::proofs::RowLaws::share_fits))]
     /// How many of the seats below n have signed the share, as far as the set knows.
+    #[tactic(auto, using(crate::proofs::RowLaws::row_count, crate::proofs::RowLaws::share_fits))]
     pub fn count(&self, share: Share, n: u8) -> u8
         ensures { result ≡ tally (λ s. stored self.now (message (share_kind share) s (share_subject share))) n }
     {
