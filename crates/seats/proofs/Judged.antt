@@ -24,20 +24,6 @@ module _ (p : Model) (t : Tree) (x : Seat) (s : ℕ) where
   abbrev waited : ℕ → Bool
   waited delay = leb delay (x.clock - x.start)
 
-  abbrev pub propose_judged : ℕ → List ℕ → Verdict
-  propose_judged par xs =
-      cond (is_in_round (stage x.phase))
-      (cond (not x.proposed)
-      (cond (waited (prop_delay p (p.rank x.round.value s)))
-      (cond (eqb (round_of p par + 1) x.round.value)
-      (cond (notarized_in p t (pooled x) (round_of p par) par)
-      (cond (sound p (chain_places t (round_of p par) par) xs) accepted
-      (refused 19 4 s par)) (refused 18 4 s par)) (refused 17 4 s par)) (refused 14 4 s par)) (refused 15 4 s par)) (refused 12 4 s par)
-
-  pub propose_judged_is : (par : ℕ) (xs : List ℕ) → propose_judged par xs ≡ verdict_past 3 p (bare_desk t x) (propose s par xs)
-  unfolding notarized_in chain_places
-  propose_judged_is par xs = refl
-
   abbrev pub echo_judged : ℕ → Verdict
   echo_judged b =
       cond (is_in_round (stage x.phase))
@@ -62,29 +48,6 @@ module _ (p : Model) (t : Tree) (x : Seat) (s : ℕ) where
       (cond (waited (ntry_delay p (rank_of p b))) z
       (refused 14 4 s b)) (refused 18 4 s b)) (refused 16 4 s b)) (refused 17 4 s b)) (refused 12 4 s b))
       (last (first_better p (bare_desk t x) s (rank_of p b)) (some_better p (bare_desk t x) s (rank_of p b)))
-
-  abbrev pub finish_judged : ℕ → Verdict
-  finish_judged b =
-      cond (is_in_round (stage x.phase))
-      (cond (eqb (round_of p b) x.round.value)
-      (cond (valid_in p t (pooled x) (round_of p b) b)
-      (cond (combined_in p (pooled x) 2 3 b) accepted
-      (refused 21 4 s b)) (refused 18 4 s b)) (refused 17 4 s b)) (refused 12 4 s b)
-
-  pub finish_judged_is : (b : ℕ) → finish_judged b ≡ verdict_past 3 p (bare_desk t x) (finish s b)
-  unfolding valid_in combined_in
-  finish_judged_is b = refl
-
-  abbrev pub commit_judged : ℕ → Verdict
-  commit_judged b =
-      cond (ltb x.k_max (round_of p b))
-      (cond (valid_in p t (pooled x) (round_of p b) b)
-      (cond (combined_in p (pooled x) 4 5 b) accepted
-      (refused 21 4 s b)) (refused 18 4 s b)) (refused 17 4 s b)
-
-  pub commit_judged_is : (b : ℕ) → commit_judged b ≡ verdict_past 3 p (bare_desk t x) (commit s b)
-  unfolding valid_in combined_in
-  commit_judged_is b = refl
 
   second : (a b : Bool) (v : Verdict) (y : ℕ) → accepted ≡ cond a (cond b v (refused 17 4 s y)) (refused 12 4 s y) → b ≡ true
   second true true v y e = refl

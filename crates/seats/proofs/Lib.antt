@@ -4,3 +4,4 @@ pub mod Judged
 pub mod Posting
 pub mod RuleLaws
 pub mod Chains
+pub mod Iterators

@@ -14,7 +14,7 @@ pub mod search;
 pub mod state;
 
 /// Where a seat is.
-#[derive(Clone, Copy)]
+#[derive(Clone, Copy, Debug, PartialEq, Eq)]
 pub enum Phase {
     /// it waits for its round
     Waiting,

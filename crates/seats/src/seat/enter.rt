@@ -13,6 +13,7 @@ ghost use Rattle.seats.specs.Desk.{desk, bare_desk, verdict_past, sealed_with, R
 use super::{Phase, Seat};
 use crate::fault::SeatFault;
 use crate::outgoing::Outgoing;
+use crate::signing::sign;
 use basics::numbers::{Round, SeatIndex};
 use messages::message::{Message, Share};
 use plans::plan::Plan;
@@ -54,8 +55,7 @@ impl Seat {
         if next > plan.rounds() {
             return None;
         }
-        let _ = book.seal(6, who.value(), next as u16);
-        Some(Message::Signed(Share::Beacon(Round::capped(next)), who))
+        Some(sign(book, Share::Beacon(Round::capped(next)), who))
     }
 
     /// Enters the round that the seat waits for, and broadcasts its beacon share of the next one.
@@ -68,9 +68,7 @@ impl Seat {
         ensures rule { (t : Tree) → Rule 2 (model plan.now) (desk t (B.SealView.held book.old) self.old) (Enter who.value) (told who.value 0 result) (sent result) (seated self.new) (B.SealView.held book.new) }
         ensures pool { self.new.pool ≡ self.old.pool }
     {
-        if let Err(fault) = self.may_enter(plan, who) {
-            return Err(fault);
-        }
+        self.may_enter(plan, who)?;
         let share = self.seal_beacon(plan, book, who);
         self.begin_round();
         Ok(Outgoing {

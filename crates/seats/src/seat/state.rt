@@ -21,22 +21,14 @@ impl Phase {
     pub fn is_in_round(self) -> bool
         ensures { result ≡ is_in_round (stage self) }
     {
-        match self {
-            Phase::Waiting => false,
-            Phase::InRound => true,
-            Phase::Done => false,
-        }
+        self == Phase::InRound
     }
 
     /// Whether the seat waits for its round.
     pub fn is_waiting(self) -> bool
         ensures { result ≡ is_waiting (stage self) }
     {
-        match self {
-            Phase::Waiting => true,
-            Phase::InRound => false,
-            Phase::Done => false,
-        }
+        self == Phase::Waiting
     }
 }
 

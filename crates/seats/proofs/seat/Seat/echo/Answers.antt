@@ -19,15 +19,15 @@ parts false m whole share = refl
 
 pub take_note-share-requires : goal.take_note-share-requires
 take_note-share-requires g c =
-    echo_not_root (model c.args.plan.now) c.args.tree.now c.args.self.now c.args.who.value c.args.block.value c.in_ok-may_echo.ensures
+    echo_not_root (model c.args.at.plan.now) c.args.at.tree.now c.args.self.now c.args.at.who.value c.args.block.value c.in_ok-may_echo.ensures
 
 pub returns : goal.returns
 unfolding rank_noted
 returns g c =
-    let p = model c.args.plan.now in
-    let t = c.args.tree.now in
+    let p = model c.args.at.plan.now in
+    let t = c.args.at.tree.now in
     let x = c.args.self.now in
-    let s = c.args.who.value in
+    let s = c.args.at.who.value in
     let b = c.args.block.value in
     let held = g.B.SealView.held c.args.book.now in
     let n = c.take_note-share.ensures in

@@ -11,7 +11,7 @@ use Rattle.seats.proofs.seat.Seat.finish.Goals as goal
 
 pub seal_final-share-requires : goal.seal_final-share-requires
 seal_final-share-requires g c =
-    finish_not_root (model c.args.plan.now) c.args.tree.now c.args.self.now c.args.who.value c.args.block.value c.in_ok-may_finish.ensures
+    finish_not_root (model c.args.at.plan.now) c.args.at.tree.now c.args.self.now c.args.at.who.value c.args.block.value c.in_ok-may_finish.ensures
 
 pub returns : goal.returns
 unfolding other_noted
@@ -20,7 +20,7 @@ returns g c =
     let sh = c.seal_final-share.ensures in
     let b = c.args.block.value in
     record {
-      rule = rule_accepts 3 (model c.args.plan.now) (desk c.args.tree.now held c.args.self.now) (finish c.args.who.value b) c.in_ok-may_finish.ensures
+      rule = rule_accepts 3 (model c.args.at.plan.now) (desk c.args.at.tree.now held c.args.self.now) (finish c.args.at.who.value b) c.in_ok-may_finish.ensures
           (ap (λ (l : List Said). notarization b ∷ l) sh.share) c.end_round.ensures.seat (sh.seals ∙ ap (λ (l : List Said). sealed_with l held) sh.share);
       pool = c.end_round.ensures.pool;
     }
