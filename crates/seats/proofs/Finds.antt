@@ -43,35 +43,35 @@ value_inside (Some b) = refl
 
 module _ (p : Model) (t : Tree) (x : Seat) (r : ℕ) where
   -- a block of another round is no better one
-  elsewhere : (c : ℕ) → eqb (round_of p c) x.round.value ≡ false → better_in p t x r c ≡ false
+  elsewhere : (c : ℕ) → eqb (round_of p c) x.progress.round.value ≡ false → better_in p t x r c ≡ false
   unfolding better_in
   elsewhere c e = grind arith
 
   -- a rank that no seat has gives no better block
-  pub none_holds : Lawful p → (q : ℕ) → None ≡ held_by p x.round.value q → None ≡ best_in_rank p t x r q
+  pub none_holds : Lawful p → (q : ℕ) → None ≡ held_by p x.progress.round.value q → None ≡ best_in_rank p t x r q
   unfolding best_in_rank
   none_holds law q none =
-      let k = x.round.value in
+      let k = x.progress.round.value in
       let has : ℕ → Bool = λ s. eqb (p.rank k s) q in
       let nobody : some_below has p.n ≡ false = none_found (some_below has p.n) (holder p k q) none in
       let out : (v : ℕ) → round_of p (block_of_rank p x q v) ≡ k + 1 =
-      (λ v. ap (λ s. round_of p (number p k s (min v 2))) (first_none has p.n nobody) ∙ number_out p k (min v 2) law x.round.first (omega arith)) in
+      (λ v. ap (λ s. round_of p (number p k s (min v 2))) (first_none has p.n nobody) ∙ number_out p k (min v 2) law x.progress.round.first (omega arith)) in
       let f : ℕ → Bool = λ v. better_in p t x r (block_of_rank p x q v) in
       let none_better : some_below f 3 ≡ false =
       no_below f 3 (λ v _ y. not_both (f v) y (elsewhere (block_of_rank p x q v) (ne_eqb _ _ (λ e. omega (arith, out v, e))))) in
       sym (ap (λ b. only_if b (block_of_rank p x q (first_below f 3))) none_better)
 
   -- the first better one of the holder's three blocks
-  pub first_of_rank : (q m : ℕ) → Some m ≡ held_by p x.round.value q → (o : Option BlockNumber)
-      → option_map (λ (b : BlockNumber). b.value) o ≡ list_find (better_in p t x r) (map (λ v. number p x.round.value m (min v 2)) (range_with_len 0 3))
+  pub first_of_rank : (q m : ℕ) → Some m ≡ held_by p x.progress.round.value q → (o : Option BlockNumber)
+      → option_map (λ (b : BlockNumber). b.value) o ≡ list_find (better_in p t x r) (map (λ v. number p x.progress.round.value m (min v 2)) (range_with_len 0 3))
       → block_value o ≡ best_in_rank p t x r q
   unfolding best_in_rank
   first_of_rank q m held o found =
       let n = block_of_rank p x q in
       let better = better_in p t x r in
-      let at = some_found (some_below (λ s. eqb (p.rank x.round.value s) q) p.n) (holder p x.round.value q) m held in
+      let at = some_found (some_below (λ s. eqb (p.rank x.progress.round.value s) q) p.n) (holder p x.progress.round.value q) m held in
       value_inside o ∙ found
-      ∙ ap (λ (s : ℕ). list_find better (map (λ (v : ℕ). number p x.round.value s (min v 2)) (range_with_len 0 3))) at.1
+      ∙ ap (λ (s : ℕ). list_find better (map (λ (v : ℕ). number p x.progress.round.value s (min v 2)) (range_with_len 0 3))) at.1
       ∙ three_cases n (better (n 0)) (better (n 1)) (better (n 2))
 
   none_of_rank : (q : ℕ) → None ≡ best_in_rank p t x r q → (v : ℕ) → v < 3 → better_in p t x r (block_of_rank p x q v) ≡ false
@@ -89,29 +89,29 @@ module _ (p : Model) (t : Tree) (x : Seat) (r : ℕ) where
 
   -- whether the j-th block of the round is better
   abbrev pub better_nth : ℕ → Bool
-  better_nth j = better_in p t x r (in_order p x.round.value j)
+  better_nth j = better_in p t x r (in_order p x.progress.round.value j)
 
-  nth : (q v : ℕ) → v < 3 → in_order p x.round.value (3 * q + v) ≡ block_of_rank p x q v
+  nth : (q v : ℕ) → v < 3 → in_order p x.progress.round.value (3 * q + v) ≡ block_of_rank p x q v
   nth q v h =
       let a : (3 * q + v) / 3 ≡ q = omega arith in
       let b : (3 * q + v) % 3 ≡ min v 2 = omega arith in
-      λ i. number p x.round.value (holder p x.round.value (a i)) (b i)
+      λ i. number p x.progress.round.value (holder p x.progress.round.value (a i)) (b i)
 
   nth_is : (j : ℕ) → better_nth j ≡ better_in p t x r (block_of_rank p x (j / 3) (j % 3))
   nth_is j =
       let e : j % 3 ≡ min (j % 3) 2 = omega arith in
-      ap (λ (v : ℕ). better_in p t x r (number p x.round.value (holder p x.round.value (j / 3)) v)) e
+      ap (λ (v : ℕ). better_in p t x r (number p x.progress.round.value (holder p x.progress.round.value (j / 3)) v)) e
 
   -- no better block is of a rank below q, or of the rank q and a variant below v
   none_before : (q v : ℕ) → v < 3 → ((k : ℕ) → k < q → None ≡ best_in_rank p t x r k) → ((u : ℕ) → u < v → better_in p t x r (block_of_rank p x q u) ≡ false)
       → some_below better_nth (3 * q + v) ≡ false
   none_before q v h lower here =
       no_below better_nth (3 * q + v) (λ j low y.
-          let below : better_in p t x r (block_of_rank p x (j / 3) (j % 3)) ≡ false = elim (dec_lt (j / 3) q) [
-            | yes l ↦ none_of_rank (j / 3) (lower (j / 3) l) (j % 3) (omega arith)
-            | no g ↦ (let e : j / 3 ≡ q = omega arith in ap (λ (k : ℕ). better_in p t x r (block_of_rank p x k (j % 3))) e ∙ here (j % 3) (omega arith))
-          ] in
-          not_both (better_nth j) y (nth_is j ∙ below))
+      let below : better_in p t x r (block_of_rank p x (j / 3) (j % 3)) ≡ false = elim (dec_lt (j / 3) q) [
+        | yes l ↦ none_of_rank (j / 3) (lower (j / 3) l) (j % 3) (omega arith)
+        | no g ↦ (let e : j / 3 ≡ q = omega arith in ap (λ (k : ℕ). better_in p t x r (block_of_rank p x k (j % 3))) e ∙ here (j % 3) (omega arith))
+      ] in
+      not_both (better_nth j) y (nth_is j ∙ below))
 
   best_found : (q y : ℕ) → q < r → Some y ≡ best_in_rank p t x r q → ((k : ℕ) → k < q → None ≡ best_in_rank p t x r k) → Some y ≡ best_in p t x r
   unfolding best_in better_in
@@ -123,7 +123,7 @@ module _ (p : Model) (t : Tree) (x : Seat) (r : ℕ) where
       let here : better_nth (3 * q + v) ≡ true = ap (better_in p t x r) turn ∙ s.3 in
       let there = find better_nth (3 * r) (3 * q + v) in_reach here in
       let first = first_at better_nth (3 * r) (3 * q + v) in_reach (none_before q v s.1 lower s.4) here in
-      ap Some (s.2 ∙ sym turn) ∙ sym (cond-true (some_below better_nth (3 * r)) _ _ there ∙ ap (λ j. Some (in_order p x.round.value j)) first)
+      ap Some (s.2 ∙ sym turn) ∙ sym (cond-true (some_below better_nth (3 * r)) _ _ there ∙ ap (λ j. Some (in_order p x.progress.round.value j)) first)
 
   best_none : ((k : ℕ) → k < r → None ≡ best_in_rank p t x r k) → None ≡ best_in p t x r
   unfolding best_in better_in

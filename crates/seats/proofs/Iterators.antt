@@ -59,8 +59,7 @@ module _ (p : Run nat_range_steps) (n : ℕ) (is : p.from ≡ record { start = 0
     first_given (Some y) h =
         let i = h.0 in
         let w = h.3 keeps in
-        let low : i < n = omega (arith, h.1, short) in
-        (
+        let low : i < n = omega (arith, h.1, short) in (
           i,
           low,
           computes i (Some y) low (subst (λ o. IsSomeAnd o (λ x. Called g f (x, tt) (Some y) f)) (at_place i h.1) w.0),

@@ -18,7 +18,7 @@ better_in p t x r c = better p (bare_desk t x) 0 r c
 
 -- the block of the seat's round, of rank q and variant v (past 2 the last)
 abbrev pub block_of_rank : Model → Seat → ℕ → ℕ → ℕ
-block_of_rank p x q v = number p x.round.value (holder p x.round.value q) (min v 2)
+block_of_rank p x q v = number p x.progress.round.value (holder p x.progress.round.value q) (min v 2)
 
 -- the first block of rank q that is better than a rank, if there is one
 unfoldable pub best_in_rank : Model → Tree → Seat → ℕ → ℕ → Option ℕ

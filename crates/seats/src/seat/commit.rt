@@ -42,7 +42,7 @@ impl Seat {
         if round > 8 {
             return Err(SeatFault::WrongRound);
         }
-        if self.k_max >= round {
+        if self.progress.k_max >= round {
             return Err(SeatFault::WrongRound);
         }
         if !at.tree.valid(at.plan, &self.pool, block) {
@@ -60,13 +60,19 @@ impl Seat {
 
     // the catalogue goes on to the block, of a round from here to the eighth
     fn extend_catalogue(&mut self, at: Context<'_>, block: BlockNumber)
-        requires { (self.old.k_max < round_of (model at.plan.now) block.value) × (round_of (model at.plan.now) block.value ≤ 8) }
+        requires { (self.old.progress.k_max < round_of (model at.plan.now) block.value) × (round_of (model at.plan.now) block.value ≤ 8) }
         ensures seat { seated self.new ≡ seat_after (model at.entry.plan.now) (bare_desk at.entry.tree.now self.old) (Commit 0 block.value) }
         ensures pool { self.new.pool ≡ self.old.pool }
     {
         let round = at.plan.round_of(block);
-        list_chain(at.tree, &mut self.catalogue, self.k_max, round, block);
-        self.k_max = round;
+        list_chain(
+            at.tree,
+            &mut self.progress.catalogue,
+            self.progress.k_max,
+            round,
+            block,
+        );
+        self.progress.k_max = round;
     }
 
     /// Commits a block: its chain's blocks of the rounds above the highest committed one go onto the catalogue, and its finalization is

@@ -9,12 +9,12 @@ ghost use Rattle.plans.specs.Planned.{model};
 ghost use Rattle.tree.specs.Blocks.{parents};
 ghost use Rattle.seats.specs.Faults.{told};
 ghost use Rattle.seats.specs.Sent.{maybe, sent};
-ghost use Rattle.seats.specs.Seated.{seated};
+ghost use Rattle.seats.specs.Seated.{progressed, seated};
 ghost use Rattle.seats.specs.Searches.{rank_noted};
 ghost use Rattle.seats.specs.Desk.{desk, bare_desk, verdict_past, sealed_with, Rule};
 
-use super::Seat;
 use super::propose::notarization_of;
+use super::{Progress, Seat};
 use crate::context::Context;
 use crate::fault::SeatFault;
 use crate::outgoing::Outgoing;
@@ -41,51 +41,51 @@ fn passed_whole(at: Context<'_>, block: BlockNumber) -> Option<Message>
     notarization_of(at.tree.parent(block))
 }
 
-impl Seat {
-    /// What `echo` would answer now.
-    #[tactic(auto, unfolding(crate::specs::Searches::best_in, tree::specs::Blocks::valid_in))]
-    pub fn may_echo(&self, at: Context<'_>, block: BlockNumber) -> Result<(), SeatFault>
-        ensures { told at.entry.who.value block.value result ≡ verdict_past 3 (model at.entry.plan.now) (bare_desk at.entry.tree.now self.now) (Echo at.entry.who.value block.value) }
-    {
-        if !self.phase.is_in_round() {
-            return Err(SeatFault::Phase);
-        }
-        if at.plan.round_of(block) != self.round.value() {
-            return Err(SeatFault::WrongRound);
-        }
-        let rank = at.plan.rank_of(block);
-        if self.noted[block.value() as usize] {
-            return Err(SeatFault::EchoedBefore);
-        }
-        if mask::has(self.disqualified, rank.value()) {
-            return Err(SeatFault::EchoedBefore);
-        }
-        if !at.tree.valid(at.plan, &self.pool, block) {
-            return Err(SeatFault::NotValid);
-        }
-        if self.clock.saturating_sub(self.start) < at.plan.ntry_delay(rank) {
-            return Err(SeatFault::TooSoon);
-        }
-        match self.best(at, rank) {
-            Some(better) => Err(SeatFault::Better(better)),
-            None => Ok(()),
-        }
-    }
-
+impl Progress {
     // the rank is disqualified
     fn disqualify(&mut self, rank: Rank)
-        ensures seat { seated self.new ≡ disqualifying rank.value (seated self.old) }
-        ensures pool { self.new.pool ≡ self.old.pool }
+        ensures { progressed self.new ≡ disqualifying rank.value (progressed self.old) }
     {
         self.disqualified = mask::with(self.disqualified, rank.value());
     }
 
     // the block is noted
     fn note(&mut self, block: BlockNumber)
-        ensures seat { seated self.new ≡ noting block.value (seated self.old) }
-        ensures pool { self.new.pool ≡ self.old.pool }
+        ensures { progressed self.new ≡ noting block.value (progressed self.old) }
     {
         self.noted[block.value() as usize] = true;
+    }
+}
+
+impl Seat {
+    /// What `echo` would answer now.
+    #[tactic(auto, unfolding(crate::specs::Searches::best_in, tree::specs::Blocks::valid_in))]
+    pub fn may_echo(&self, at: Context<'_>, block: BlockNumber) -> Result<(), SeatFault>
+        ensures { told at.entry.who.value block.value result ≡ verdict_past 3 (model at.entry.plan.now) (bare_desk at.entry.tree.now self.now) (Echo at.entry.who.value block.value) }
+    {
+        if !self.phase().is_in_round() {
+            return Err(SeatFault::Phase);
+        }
+        if at.plan.round_of(block) != self.round().value() {
+            return Err(SeatFault::WrongRound);
+        }
+        let rank = at.plan.rank_of(block);
+        if self.progress.noted[block.value() as usize] {
+            return Err(SeatFault::EchoedBefore);
+        }
+        if mask::has(self.progress.disqualified, rank.value()) {
+            return Err(SeatFault::EchoedBefore);
+        }
+        if !at.tree.valid(at.plan, &self.pool, block) {
+            return Err(SeatFault::NotValid);
+        }
+        if self.progress.elapsed() < at.plan.ntry_delay(rank) {
+            return Err(SeatFault::TooSoon);
+        }
+        match self.best(at, rank) {
+            Some(better) => Err(SeatFault::Better(better)),
+            None => Ok(()),
+        }
     }
 
     // the block is noted and its share sealed; or its rank is disqualified, where a block of that rank was noted
@@ -103,10 +103,10 @@ impl Seat {
     {
         let rank = at.plan.rank_of(block);
         if self.noted_rank(at.plan, rank) {
-            self.disqualify(rank);
+            self.progress.disqualify(rank);
             return None;
         }
-        self.note(block);
+        self.progress.note(block);
         Some(sign(book, Share::Notarization(block), at.who))
     }
 

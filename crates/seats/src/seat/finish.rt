@@ -6,11 +6,11 @@ ghost use Rattle.model.specs.Seats.{finished};
 ghost use Rattle.plans.specs.Planned.{model};
 ghost use Rattle.seats.specs.Faults.{told};
 ghost use Rattle.seats.specs.Sent.{maybe, sent};
-ghost use Rattle.seats.specs.Seated.{seated};
+ghost use Rattle.seats.specs.Seated.{progressed, seated};
 ghost use Rattle.seats.specs.Searches.{other_noted};
 ghost use Rattle.seats.specs.Desk.{desk, bare_desk, verdict_past, sealed_with, Rule};
 
-use super::{Phase, Seat};
+use super::{Phase, Progress, Seat};
 use crate::context::Context;
 use crate::fault::SeatFault;
 use crate::outgoing::Outgoing;
@@ -20,16 +20,31 @@ use messages::message::{Message, Share};
 use plans::plan::Plan;
 use seals::book::{SealBook, SealView};
 
+impl Progress {
+    // the seat waits for the next round, or is done after the last
+    fn end_round(&mut self, plan: &Plan)
+        ensures { progressed self.new ≡ finished (model plan.now) (progressed self.old) }
+    {
+        let round = self.round.value();
+        if round < plan.rounds() {
+            self.phase = Phase::Waiting;
+            self.round = Round::capped(round + 1);
+        } else {
+            self.phase = Phase::Done;
+        }
+    }
+}
+
 impl Seat {
     /// What `finish` would answer now.
     #[tactic(auto, unfolding(crate::specs::Searches::combined_in, tree::specs::Blocks::valid_in))]
     pub fn may_finish(&self, at: Context<'_>, block: BlockNumber) -> Result<(), SeatFault>
         ensures { told at.entry.who.value block.value result ≡ verdict_past 3 (model at.entry.plan.now) (bare_desk at.entry.tree.now self.now) (Finish at.entry.who.value block.value) }
     {
-        if !self.phase.is_in_round() {
+        if !self.phase().is_in_round() {
             return Err(SeatFault::Phase);
         }
-        if at.plan.round_of(block) != self.round.value() {
+        if at.plan.round_of(block) != self.round().value() {
             return Err(SeatFault::WrongRound);
         }
         if !at.tree.valid(at.plan, &self.pool, block) {
@@ -62,20 +77,6 @@ impl Seat {
         Some(sign(book, Share::Finalization(block), at.who))
     }
 
-    // the seat waits for the next round, or is done after the last
-    fn end_round(&mut self, plan: &Plan)
-        ensures seat { seated self.new ≡ finished (model plan.now) (seated self.old) }
-        ensures pool { self.new.pool ≡ self.old.pool }
-    {
-        let round = self.round.value();
-        if round < plan.rounds() {
-            self.phase = Phase::Waiting;
-            self.round = Round::capped(round + 1);
-        } else {
-            self.phase = Phase::Done;
-        }
-    }
-
     /// Finishes the round with a notarized block: broadcasts its notarization and, if no other block is noted, the finalization share.
     pub fn finish<B: SealBook>(
         &mut self,
@@ -88,7 +89,7 @@ impl Seat {
     {
         self.may_finish(at, block)?;
         let share = self.seal_final(at, book, block);
-        self.end_round(at.plan);
+        self.progress.end_round(at.plan);
         Ok(Outgoing {
             block: None,
             whole: Some(Message::Notarization(block)),

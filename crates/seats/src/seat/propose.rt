@@ -37,18 +37,18 @@ impl Seat {
     ) -> Result<(), SeatFault>
         ensures { told at.entry.who.value parent.value result ≡ verdict_past 3 (model at.entry.plan.now) (bare_desk at.entry.tree.now self.now) (Propose at.entry.who.value parent.value (places_of_payload payload.now)) }
     {
-        if !self.phase.is_in_round() {
+        if !self.phase().is_in_round() {
             return Err(SeatFault::Phase);
         }
-        if self.proposed {
+        if self.progress.proposed {
             return Err(SeatFault::ProposedBefore);
         }
-        let rank = at.plan.rank(self.round, at.who);
-        if self.clock.saturating_sub(self.start) < at.plan.prop_delay(rank) {
+        let rank = at.plan.rank(self.round(), at.who);
+        if self.progress.elapsed() < at.plan.prop_delay(rank) {
             return Err(SeatFault::TooSoon);
         }
         let round = at.plan.round_of(parent);
-        if round + 1 != self.round.value() {
+        if round + 1 != self.round().value() {
             return Err(SeatFault::WrongRound);
         }
         if !at.tree.notarized(at.plan, &self.pool, parent) {
@@ -74,9 +74,9 @@ impl Seat {
         ensures pool { self.new.pool ≡ self.old.pool }
     {
         self.may_propose(Context { plan, tree, who }, parent, &payload)?;
-        let block = plan.number(self.round, who, 0);
+        let block = plan.number(self.round(), who, 0);
         tree.make(block, parent, payload);
-        self.proposed = true;
+        self.progress.proposed = true;
         let whole = notarization_of(parent);
         Ok(Outgoing {
             block: Some(Message::Block(block)),

@@ -19,12 +19,12 @@ impl Seat {
     fn is_better(&self, at: Context<'_>, rank: Rank, c: BlockNumber) -> bool
         ensures { result ≡ better_in (model at.entry.plan.now) at.entry.tree.now self.now rank.value c.value }
     {
-        if at.plan.round_of(c) != self.round.value() {
+        if at.plan.round_of(c) != self.round().value() {
             return false;
         }
         let q = at.plan.rank_of(c).value();
         q < rank.value()
-            && !mask::has(self.disqualified, q)
+            && !mask::has(self.progress.disqualified, q)
             && at.tree.valid(at.plan, &self.pool, c)
     }
 
@@ -32,9 +32,9 @@ impl Seat {
     fn best_of_rank(&self, at: Context<'_>, rank: Rank, q: Rank) -> Option<BlockNumber>
         ensures { block_value result ≡ best_in_rank (model at.entry.plan.now) at.entry.tree.now self.now rank.value q.value }
     {
-        let maker = at.plan.holder(self.round, q)?;
+        let maker = at.plan.holder(self.progress.round, q)?;
         (0..3)
-            .map(|variant| at.plan.number(self.round, maker, variant))
+            .map(|variant| at.plan.number(self.progress.round, maker, variant))
             .find(|c| self.is_better(at, rank, *c))
     }
 
@@ -49,15 +49,16 @@ impl Seat {
     pub fn noted_rank(&self, plan: &Plan, rank: Rank) -> bool
         ensures { result ≡ rank_noted (model plan.now) self.now rank.value }
     {
-        (0..plan.numbers()).any(|b| self.noted[usize::from(b)]
-            && plan.rank_of(BlockNumber::capped(b)) == rank)
+        (0..plan.numbers()).any(|b| {
+            self.progress.noted[usize::from(b)] && plan.rank_of(BlockNumber::capped(b)) == rank
+        })
     }
 
     /// Whether another block is noted.
     pub fn noted_other(&self, plan: &Plan, block: BlockNumber) -> bool
         ensures { result ≡ other_noted (model plan.now) self.now block.value }
     {
-        (0..plan.numbers()).any(|b| self.noted[usize::from(b)] && b != block.value())
+        (0..plan.numbers()).any(|b| self.progress.noted[usize::from(b)] && b != block.value())
     }
 
     // whether the whole, or a quorum of the shares that make it, is in the pool

@@ -25,6 +25,6 @@ returns c =
     let m = c.in_ok-maker.maker.value in
     first_of_rank p t x r c.args.q.value m c.in_ok-maker.ensures c.find.result
     (find_from_yields_List (better_in p t x r) _ _ c.find.result c.find.ensures.ran
-        (YieldsList-from_map_by _ (λ (b : BlockNumber). b.value) (λ v. number p x.round.value m (min v 2)) (YieldsList-at c.map.ensures.source (YieldsList-from_range 0 3 3 refl refl))
-            c.map.ensures.closure (λ v b f k. search rules))
-        (λ b a f k. search rules))
+    (YieldsList-from_map_by _ (λ (b : BlockNumber). b.value) (λ v. number p x.progress.round.value m (min v 2)) (YieldsList-at c.map.ensures.source (YieldsList-from_range 0 3 3 refl refl))
+    c.map.ensures.closure (λ v b f k. search rules))
+    (λ b a f k. search rules))

@@ -8,5 +8,5 @@ pub returns : goal.returns
 unfolding other_noted
 returns c =
     let run = c.any.ensures.runs in
-    let test : ℕ → Bool = λ b. get_or c.args.self.now.noted b false && not (eqb b c.args.block.value) in
+    let test : ℕ → Bool = λ b. get_or c.args.self.now.progress.noted b false && not (eqb b c.args.block.value) in
     any_below run.0 c.numbers.result run.1 _ _ (λ a r f k. search rules) test (λ x b low k. search rules) c.any.result run.2 ∙ ap (some_below test) c.numbers.ensures.is

@@ -10,5 +10,5 @@ pub returns : goal.returns
 unfolding rank_noted
 returns c =
     let run = c.any.ensures.runs in
-    let test : ℕ → Bool = λ b. get_or c.args.self.now.noted b false && eqb (rank_of (model c.args.plan.now) b) c.args.rank.value in
+    let test : ℕ → Bool = λ b. get_or c.args.self.now.progress.noted b false && eqb (rank_of (model c.args.plan.now) b) c.args.rank.value in
     any_below run.0 c.numbers.result run.1 _ _ (λ a r f k. search rules) test (λ x b low k. search rules) c.any.result run.2 ∙ ap (some_below test) c.numbers.ensures.is
