@@ -8,7 +8,7 @@ ghost use Rattle.seats.specs.Searches.{better_in, best_in_rank, best_in, rank_no
 
 use super::Seat;
 use crate::context::Context;
-use basics::mask;
+use basics::mask::Mask;
 use basics::numbers::{BlockNumber, Rank};
 use messages::message::{Message, Share};
 use plans::plan::Plan;
@@ -24,7 +24,7 @@ impl Seat {
         }
         let q = at.plan.rank_of(c).value();
         q < rank.value()
-            && !mask::has(self.progress.disqualified, q)
+            && !self.progress.disqualified.has(q)
             && at.tree.valid(at.plan, &self.pool, c)
     }
 
