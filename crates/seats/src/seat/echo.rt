@@ -18,14 +18,9 @@ use super::{Progress, Seat};
 use crate::context::Context;
 use crate::fault::SeatFault;
 use crate::outgoing::Outgoing;
-<<<<<<< HEAD
 use crate::signing::sign;
-use basics::mask;
-use basics::numbers::{BlockNumber, Rank};
-=======
 use basics::mask::Mask;
-use basics::numbers::{BlockNumber, Rank, SeatIndex};
->>>>>>> 8163fc9cc688058bdd53dfe354fb3e57ac035af7
+use basics::numbers::{BlockNumber, Rank};
 use messages::message::{Message, Share};
 use seals::book::{SealBook, SealView};
 
@@ -46,46 +41,7 @@ fn passed_whole(at: Context<'_>, block: BlockNumber) -> Option<Message>
     notarization_of(at.tree.parent(block))
 }
 
-<<<<<<< HEAD
 impl Progress {
-=======
-impl Seat {
-    /// What `echo` would answer now.
-    pub fn may_echo(
-        &self,
-        plan: &Plan,
-        tree: &Tree,
-        who: SeatIndex,
-        block: BlockNumber,
-    ) -> Result<(), SeatFault>
-        ensures { told who.value block.value result ≡ verdict_past 3 (model plan.now) (bare_desk tree.now self.now) (Echo who.value block.value) }
-    {
-        if !self.phase.is_in_round() {
-            return Err(SeatFault::Phase);
-        }
-        if plan.round_of(block) != self.round.value() {
-            return Err(SeatFault::WrongRound);
-        }
-        let rank = plan.rank_of(block);
-        if self.noted[block.value() as usize] {
-            return Err(SeatFault::EchoedBefore);
-        }
-        if self.disqualified.has(rank.value()) {
-            return Err(SeatFault::EchoedBefore);
-        }
-        if !tree.valid(plan, &self.pool, block) {
-            return Err(SeatFault::NotValid);
-        }
-        if self.clock.saturating_sub(self.start) < plan.ntry_delay(rank) {
-            return Err(SeatFault::TooSoon);
-        }
-        match self.best(plan, tree, rank) {
-            Some(better) => Err(SeatFault::Better(better)),
-            None => Ok(()),
-        }
-    }
-
->>>>>>> 8163fc9cc688058bdd53dfe354fb3e57ac035af7
     // the rank is disqualified
     fn disqualify(&mut self, rank: Rank)
         ensures { progressed self.new ≡ disqualifying rank.value (progressed self.old) }
@@ -117,7 +73,7 @@ impl Seat {
         if self.progress.noted[block.value() as usize] {
             return Err(SeatFault::EchoedBefore);
         }
-        if mask::has(self.progress.disqualified, rank.value()) {
+        if self.progress.disqualified.has(rank.value()) {
             return Err(SeatFault::EchoedBefore);
         }
         if !at.tree.valid(at.plan, &self.pool, block) {
