@@ -1,4 +1,3 @@
--- The lemmas about walks from a block to the root, about tables and about lists.
+-- The lemmas about walks from a block to the root and about tables.
 pub mod WalkSteps
 pub mod Unmade
-pub mod SameLists

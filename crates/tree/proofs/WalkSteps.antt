@@ -1,141 +1,109 @@
 -- Walks from a block to the root, one step at a time.
-use Rattle.std.proofs.Common.{◌≡◌, ℕ, suc, ◌+◌, ◌-◌, ◌<◌, Bool, true, false, not, ◌&&◌, eqb, ltb, ◌⊎◌, List, [], ◌∷◌, ◌++◌, length, get_or, take, drop, sym, refl, ap, ◌∙◌, ap₂, append_assoc, append-nil, add-one, arith, drop-cons, take-suc}
-use lib.Seq.{drop-length}
-use Rattle.std.proofs.lemmas.Bool.{and_right}
+use Rattle.std.proofs.Common.{◌≡◌, ℕ, zero, suc, ◌+◌, Bool, true, false, not, ◌&&◌, eqb, ltb, List, [], ◌∷◌, ◌++◌, length, take, sym, refl, ap, ◌∙◌, ap₂, append_assoc, append-nil, arith}
+use Rattle.std.specs.List.{list_all, enumerate_from}
+use Rattle.std.proofs.lemmas.List.{length_push}
+use Rattle.std.proofs.lemmas.Grind.{common_steps}
 use Rattle.model.specs.Setup.{Plan as Model}
 use Rattle.model.specs.World.{unlike_all, sound, chain_by, places_by, block, notarization}
 use Rattle.model.specs.World.{Message as Said}
+use Rattle.plans.specs.Planned.{model}
 use Rattle.tree.specs.declared.tree.Tree.{Tree}
-use Rattle.tree.specs.Blocks.{parents, payloads, chain_places, sound_block, notarized_in, valid_in}
+use Rattle.tree.specs.declared.tree.walks.Chain.{Chain}
+use Rattle.tree.specs.Blocks.{parents, payloads, chain_places, notarized_in, valid_in}
+use Rattle.tree.specs.Chains.{places_on, last_places, HasParent}
 
-places_append : (ps : ℕ → List ℕ) (xs ys : List ℕ) → places_by ps (xs ++ ys) ≡ places_by ps xs ++ places_by ps ys
-places_append ps [] ys = refl
-places_append ps (x ∷ xs) ys = ap (λ l. ps x ++ l) (places_append ps xs ys) ∙ sym (append_assoc (ps x) (places_by ps xs) (places_by ps ys))
+-- what `u && r` answers, at the turn where u says whether to go on to r
+pub and_then : {a b u r : Bool} → u ≡ true → u ≡ a → r ≡ b → r ≡ (a && b)
+and_then {b = b} t e f = f ∙ ap (λ x. x && b) (sym t ∙ e)
+
+pub and_else : {a u : Bool} (b : Bool) → u ≡ false → u ≡ a → u ≡ (a && b)
+and_else b t e = t ∙ ap (λ x. x && b) (sym t ∙ e)
+
+and_comm : (a b : Bool) → (a && b) ≡ (b && a)
+and_comm a b = grind arith
 
 and_assoc : (a b d : Bool) → ((a && b) && d) ≡ (a && (b && d))
 and_assoc a b d = grind arith
 
-pub unlike_append : (p : Model) (x : ℕ) (xs ys : List ℕ) → unlike_all p x (xs ++ ys) ≡ (unlike_all p x xs && unlike_all p x ys)
-unlike_append p x [] ys = refl
-unlike_append p x (z ∷ xs) ys = ap (λ b. not (p.like x z) && b) (unlike_append p x xs ys) ∙ sym (and_assoc (not (p.like x z)) (unlike_all p x xs) (unlike_all p x ys))
+places_by-append : (ps : ℕ → List ℕ) (xs ys : List ℕ) → places_by ps (xs ++ ys) ≡ places_by ps xs ++ places_by ps ys
+places_by-append ps [] ys = refl
+places_by-append ps (x ∷ xs) ys = ap (λ l. ps x ++ l) (places_by-append ps xs ys) ∙ sym (append_assoc (ps x) (places_by ps xs) (places_by ps ys))
 
--- a chain, by its last block and the rest
-chain_step : (t : Tree) (k b : ℕ) → 0 < k → chain_places t k b ≡ chain_places t (k - 1) (parents t b) ++ payloads t b
+unlike_all-append : (p : Model) (x : ℕ) (xs ys : List ℕ) → unlike_all p x (xs ++ ys) ≡ (unlike_all p x xs && unlike_all p x ys)
+unlike_all-append p x [] ys = refl
+unlike_all-append p x (z ∷ xs) ys = ap (λ b. not (p.like x z) && b) (unlike_all-append p x xs ys) ∙ sym (and_assoc (not (p.like x z)) (unlike_all p x xs) (unlike_all p x ys))
+
+-- a chain of no round has no place
+pub places_on-root : (x : Chain) → x.round ≡ 0 → places_on x ≡ []
 unfolding chain_places
-chain_step t k b h =
-    let e : k ≡ suc (k - 1) = omega arith in
-    ap (λ j. places_by (payloads t) (chain_by (parents t) j b)) e
-    ∙ places_append (payloads t) (chain_by (parents t) (k - 1) (parents t b)) (b ∷ [])
-    ∙ ap (λ l. places_by (payloads t) (chain_by (parents t) (k - 1) (parents t b)) ++ l) (append-nil (payloads t b))
+places_on-root x e = ap (λ k. chain_places x.tree.now k x.block.value) e
 
-pub unlike_chain_step : (p : Model) (t : Tree) (x k b : ℕ) → 0 < k
-    → unlike_all p x (chain_places t k b) ≡ (unlike_all p x (chain_places t (k - 1) (parents t b)) && unlike_all p x (payloads t b))
-unlike_chain_step p t x k b h = ap (unlike_all p x) (chain_step t k b h) ∙ unlike_append p x (chain_places t (k - 1) (parents t b)) (payloads t b)
-
-pub unlike_chain_end : (p : Model) (t : Tree) (x b : ℕ) → unlike_all p x (chain_places t 0 b) ≡ true
+-- a chain has the places of the parent's, and then those of its last block
+places_on-step : {x p : Chain} → HasParent x p → places_on x ≡ places_on p ++ last_places x
 unfolding chain_places
-unlike_chain_end p t x b = refl
+places_on-step {x} {p} up =
+    let t = x.tree.now in
+    let e : x.round ≡ suc p.round = omega (arith, up.round) in
+    ap (λ k. chain_places t k x.block.value) e
+    ∙ places_by-append (payloads t) (chain_by (parents t) p.round (parents t x.block.value)) (x.block.value ∷ [])
+    ∙ ap₂ (λ b l. chain_places t p.round b ++ l) (sym up.block) (append-nil (last_places x))
+    ∙ ap (λ s. chain_places s.now p.round p.block.value ++ last_places x) (sym up.tree)
 
-pub sound_step : (p : Model) (ys xs : List ℕ) (i : ℕ) → i < length xs
-    → sound p (ys ++ take i xs) (drop i xs)
-    ≡ (ltb (get_or xs i 0) p.entries && ((unlike_all p (get_or xs i 0) ys && unlike_all p (get_or xs i 0) (take i xs)) && sound p (ys ++ take (i + 1) xs) (drop (i + 1) xs)))
-sound_step p ys xs i h =
-    let x = get_or xs i 0 in
-    ap (sound p (ys ++ take i xs)) (drop-cons xs i 0 h)
-    ∙ ap₂ (λ u l. ltb x p.entries && (u && sound p l (drop (suc i) xs)))
-    (unlike_append p x ys (take i xs))
-    (append_assoc ys (take i xs) (x ∷ []) ∙ ap (λ l. ys ++ l) (sym (take-suc xs i 0 h)))
-    ∙ ap (λ j. ltb x p.entries && ((unlike_all p x ys && unlike_all p x (take i xs)) && sound p (ys ++ take j xs) (drop j xs))) (sym (add-one i))
+-- no place of a chain is like y if none of the last block is, nor any of the parent's chain
+pub unlike-step : {x p : Chain} (y : ℕ) → HasParent x p
+    → unlike_all (model x.plan.now) y (places_on x) ≡ (unlike_all (model x.plan.now) y (last_places x) && unlike_all (model p.plan.now) y (places_on p))
+unlike-step {x} {p} y up =
+    let m = model x.plan.now in
+    ap (unlike_all m y) (places_on-step up) ∙ unlike_all-append m y (places_on p) (last_places x)
+    ∙ and_comm (unlike_all m y (places_on p)) (unlike_all m y (last_places x))
+    ∙ ap (λ s. unlike_all m y (last_places x) && unlike_all (model s.now) y (places_on p)) (sym up.plan)
 
-pub sound_start : (p : Model) (ys xs : List ℕ) → sound p ys xs ≡ sound p (ys ++ take 0 xs) (drop 0 xs)
-sound_start p ys xs = ap (λ l. sound p l xs) (sym (append-nil ys))
+-- whether the place at i may stand there, after those of a chain and those before it
+abbrev pub may_stand : Model → List ℕ → List ℕ → ℕ × ℕ → Bool
+may_stand m chain all (i, y) = ltb y m.entries && (unlike_all m y chain && unlike_all m y (take i all))
 
-pub sound_end : (p : Model) (ys xs : List ℕ) (i : ℕ) → i ≡ length xs → sound p (ys ++ take i xs) (drop i xs) ≡ true
-sound_end p ys xs i e = ap (λ l. sound p (ys ++ take i xs) l) (ap (λ j. drop j xs) e ∙ drop-length xs)
+sound-from : (m : Model) (chain before xs : List ℕ)
+    → list_all (may_stand m chain (before ++ xs)) (enumerate_from (length before) xs) ≡ sound m (chain ++ before) xs
+sound-from m chain before [] = refl
+sound-from m chain before (y ∷ xs) =
+    let front : take (length before) (before ++ y ∷ xs) ≡ before = grind (arith, common_steps) in
+    let next : list_all (may_stand m chain (before ++ y ∷ xs)) (enumerate_from (length before + 1) xs) ≡ sound m ((chain ++ before) ++ (y ∷ [])) xs =
+    ap₂ (λ l n. list_all (may_stand m chain l) (enumerate_from n xs)) (sym (append_assoc before (y ∷ []) xs)) (sym (length_push before y))
+    ∙ sound-from m chain (before ++ y ∷ []) xs
+    ∙ ap (λ l. sound m l xs) (sym (append_assoc chain before (y ∷ []))) in
+    ap₂ (λ a b. ltb y m.entries && a && b) (ap (λ l. unlike_all m y chain && unlike_all m y l) front ∙ sym (unlike_all-append m y chain before)) next
+    ∙ and_assoc (ltb y m.entries) (unlike_all m y (chain ++ before)) (sound m ((chain ++ before) ++ (y ∷ [])) xs)
 
-swap : (a b d e : Bool) → ((a && (b && d)) && e) ≡ (a && (e && (d && b)))
-swap a b d e = grind arith
+-- places are sound on a chain if each may stand where it is
+pub sound-places : (m : Model) (chain xs : List ℕ) → list_all (may_stand m chain xs) (enumerate_from 0 xs) ≡ sound m chain xs
+sound-places m chain xs = sound-from m chain [] xs ∙ ap (λ l. sound m l xs) (append-nil chain)
 
-pub notarized_step : (p : Model) (t : Tree) (pool : Said → Bool) (k b : ℕ) → 0 < k
-    → notarized_in p t pool k b ≡ (pool (block b) && (pool (notarization b) && (sound_block p t k b && notarized_in p t pool (k - 1) (parents t b))))
-unfolding notarized_in sound_block chain_places
-notarized_step p t pool k b h =
-    let e : k ≡ suc (k - 1) = omega arith in
-    ap (λ j. notarized_in p t pool j b) e
-    ∙ swap (pool (block b)) (notarized_in p t pool (k - 1) (parents t b)) (sound_block p t k b) (pool (notarization b))
-
-pub notarized_end : (p : Model) (t : Tree) (pool : Said → Bool) (k b : ℕ) → k ≡ 0 → notarized_in p t pool k b ≡ eqb b 0
+pub notarized_in-root : (m : Model) (t : Tree) (pool : Said → Bool) (k b : ℕ) → k ≡ 0 → notarized_in m t pool k b ≡ eqb b 0
 unfolding notarized_in
-notarized_end p t pool k b e = ap (λ j. notarized_in p t pool j b) e
+notarized_in-root m t pool k b e = ap (λ i. notarized_in m t pool i b) e
 
-pub valid_step : (p : Model) (t : Tree) (pool : Said → Bool) (k b : ℕ) → 0 < k
-    → valid_in p t pool k b ≡ (pool (block b) && (notarized_in p t pool (k - 1) (parents t b) && sound_block p t k b))
-unfolding valid_in notarized_in sound_block chain_places
-valid_step p t pool k b h =
-    let e : k ≡ suc (k - 1) = omega arith in
-    ap (λ j. valid_in p t pool j b) e
-
-pub valid_end : (p : Model) (t : Tree) (pool : Said → Bool) (k b : ℕ) → k ≡ 0 → valid_in p t pool k b ≡ eqb b 0
+pub valid_in-root : (m : Model) (t : Tree) (pool : Said → Bool) (k b : ℕ) → k ≡ 0 → valid_in m t pool k b ≡ eqb b 0
 unfolding valid_in
-valid_end p t pool k b e = ap (λ j. valid_in p t pool j b) e
+valid_in-root m t pool k b e = ap (λ i. valid_in m t pool i b) e
 
-stop4 : (a b d e : Bool) → (a ≡ false) ⊎ ((b ≡ false) ⊎ (d ≡ false)) → (a && ((b && d) && e)) ≡ false
-stop4 a b d e why = grind arith
+-- a block is notarized if its notarization is in the pool and it is valid
+pub notarized_in-step : (m : Model) (t : Tree) (pool : Said → Bool) (k b : ℕ) → (k ≡ 0 → ⊥)
+    → notarized_in m t pool k b ≡ (pool (notarization b) && valid_in m t pool k b)
+unfolding notarized_in valid_in
+notarized_in-step m t pool zero b up = absurd (up refl)
+notarized_in-step m t pool (suc k) b up = and_comm (valid_in m t pool (suc k) b) (pool (notarization b))
 
-stop4b : (a b d e : Bool) → (a ≡ false) ⊎ ((b ≡ false) ⊎ (d ≡ false)) → (a && (b && (d && e))) ≡ false
-stop4b a b d e why = grind arith
-
-stop3 : (a b d : Bool) → (a ≡ false) ⊎ (b ≡ false) → (a && (b && d)) ≡ false
-stop3 a b d why = grind arith
-
--- steps of the walks, with what a turn found
-pub unlike_stop : (p : Model) (t : Tree) (x k b : ℕ) → 0 < k → false ≡ unlike_all p x (payloads t b) → unlike_all p x (chain_places t k b) ≡ false
-unlike_stop p t x k b h e = unlike_chain_step p t x k b h ∙ and_right (unlike_all p x (chain_places t (k - 1) (parents t b))) (unlike_all p x (payloads t b)) (sym e)
-
-and_true : (a b : Bool) → true ≡ b → (a && b) ≡ a
-and_true a b e = grind arith
-
-pub unlike_on : (p : Model) (t : Tree) (x k b par : ℕ) → 0 < k → true ≡ unlike_all p x (payloads t b) → par ≡ parents t b
-    → unlike_all p x (chain_places t k b) ≡ unlike_all p x (chain_places t (k - 1) par)
-unlike_on p t x k b par h e is =
-    unlike_chain_step p t x k b h ∙ and_true (unlike_all p x (chain_places t (k - 1) (parents t b))) (unlike_all p x (payloads t b)) e
-    ∙ ap (λ q. unlike_all p x (chain_places t (k - 1) q)) (sym is)
-
-pub sound_stop : (p : Model) (ys xs : List ℕ) (i : ℕ) → i < length xs
-    → (ltb (get_or xs i 0) p.entries ≡ false) ⊎ ((unlike_all p (get_or xs i 0) ys ≡ false) ⊎ (unlike_all p (get_or xs i 0) (take i xs) ≡ false))
-    → sound p (ys ++ take i xs) (drop i xs) ≡ false
-sound_stop p ys xs i h why =
-    let a = ltb (get_or xs i 0) p.entries in
-    let b = unlike_all p (get_or xs i 0) ys in
-    let d = unlike_all p (get_or xs i 0) (take i xs) in
-    let e = sound p (ys ++ take (i + 1) xs) (drop (i + 1) xs) in
-    let z : (a && ((b && d) && e)) ≡ false = stop4 a b d e why in
-    sound_step p ys xs i h ∙ z
-
-pub sound_on : (p : Model) (ys xs : List ℕ) (i : ℕ) → i < length xs
-    → ltb (get_or xs i 0) p.entries ≡ true → unlike_all p (get_or xs i 0) ys ≡ true → unlike_all p (get_or xs i 0) (take i xs) ≡ true
-    → sound p (ys ++ take i xs) (drop i xs) ≡ sound p (ys ++ take (i + 1) xs) (drop (i + 1) xs)
-sound_on p ys xs i h e f g =
-    sound_step p ys xs i h ∙ (λ j. e j && ((f j && g j) && sound p (ys ++ take (i + 1) xs) (drop (i + 1) xs)))
-
-pub notarized_stop : (p : Model) (t : Tree) (pool : Said → Bool) (k b : ℕ) → 0 < k
-    → (pool (block b) ≡ false) ⊎ ((pool (notarization b) ≡ false) ⊎ (sound_block p t k b ≡ false))
-    → notarized_in p t pool k b ≡ false
-notarized_stop p t pool k b h why =
-    notarized_step p t pool k b h ∙ stop4b (pool (block b)) (pool (notarization b)) (sound_block p t k b) (notarized_in p t pool (k - 1) (parents t b)) why
-
-pub notarized_on : (p : Model) (t : Tree) (pool : Said → Bool) (k b par : ℕ) → 0 < k
-    → pool (block b) ≡ true → pool (notarization b) ≡ true → sound_block p t k b ≡ true → par ≡ parents t b
-    → notarized_in p t pool k b ≡ notarized_in p t pool (k - 1) par
-notarized_on p t pool k b par h e f g is =
-    let back = sym is in
-    notarized_step p t pool k b h ∙ (λ j. e j && (f j && (g j && notarized_in p t pool (k - 1) (back j))))
-
-pub valid_stop : (p : Model) (t : Tree) (pool : Said → Bool) (k b : ℕ) → 0 < k
-    → (pool (block b) ≡ false) ⊎ (notarized_in p t pool (k - 1) (parents t b) ≡ false)
-    → valid_in p t pool k b ≡ false
-valid_stop p t pool k b h why = valid_step p t pool k b h ∙ stop3 (pool (block b)) (notarized_in p t pool (k - 1) (parents t b)) (sound_block p t k b) why
-
-pub valid_on : (p : Model) (t : Tree) (pool : Said → Bool) (k b : ℕ) → 0 < k
-    → pool (block b) ≡ true → notarized_in p t pool (k - 1) (parents t b) ≡ true → valid_in p t pool k b ≡ sound_block p t k b
-valid_on p t pool k b h e f = valid_step p t pool k b h ∙ (λ j. e j && (f j && sound_block p t k b))
+-- it is valid if it is in the pool, its parent is notarized, and its payload is sound on the parent's chain
+pub valid_in-step : {x p : Chain} (pool : Said → Bool) → HasParent x p
+    → valid_in (model x.plan.now) x.tree.now pool x.round x.block.value
+    ≡ (pool (block x.block.value) && notarized_in (model p.plan.now) p.tree.now pool p.round p.block.value && sound (model p.plan.now) (places_on p) (last_places x))
+unfolding notarized_in valid_in chain_places
+valid_in-step {x} {p} pool up =
+    let e : x.round ≡ suc p.round = omega (arith, up.round) in
+    let plan = sym up.plan in
+    let tree = sym up.tree in
+    let above = sym up.block in
+    ap (λ k. valid_in (model x.plan.now) x.tree.now pool k x.block.value) e
+    ∙ (λ i. pool (block x.block.value) && (notarized_in (model (plan i).now) (tree i).now pool p.round (above i)
+    && sound (model (plan i).now) (chain_places (tree i).now p.round (above i)) (last_places x)))
+    ∙ sym (and_assoc (pool (block x.block.value)) (notarized_in (model p.plan.now) p.tree.now pool p.round p.block.value) (sound (model p.plan.now) (places_on p) (last_places x)))

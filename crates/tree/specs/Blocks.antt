@@ -1,40 +1,41 @@
 -- The blocks that a tree holds.
-use Rattle.std.specs.Prelude.{ℕ, ◌-◌, Bool, false, List, [], slice_index_or}
-use Rattle.std.proofs.Common.{arith}
+use Rattle.std.specs.Prelude.{ℕ, Bool, List, [], Option, Some, None, is_some, slice_index_or}
 use Rattle.model.specs.Setup.{Plan as Model}
-use Rattle.model.specs.World.{chain_by, places_by, sound, notarized_by, valid_by}
+use Rattle.model.specs.World.{chain_by, places_by, notarized_by, valid_by}
 use Rattle.model.specs.World.{Message as Said}
 use Rattle.tree.specs.Payloads.{listed}
 use Rattle.tree.specs.declared.tree.Block.{Block}
 use Rattle.tree.specs.declared.tree.Tree.{Tree}
 
--- a block that was not made
-abbrev pub no_block : Block
-no_block = record {
-  made = false;
-  parent = record { value = 0; low = omega arith };
-  payload = record { places = []; count = 0; few = omega arith };
-}
+-- the block of a number, if it was made
+abbrev pub block_at : Tree → ℕ → Option Block
+block_at x b = slice_index_or x.blocks b None
+
+-- the parent of a block, the root where none was made
+abbrev pub parent_of : Option Block → ℕ
+parent_of None = 0
+parent_of (Some x) = x.parent.value
+
+-- the places of a block, none where none was made
+abbrev pub places_of : Option Block → List ℕ
+places_of None = []
+places_of (Some x) = listed x.payload
 
 -- whether a block was made
 abbrev pub mades : Tree → ℕ → Bool
-mades x b = (slice_index_or x.blocks b no_block).made
+mades x b = is_some (block_at x b)
 
 -- its parent
 abbrev pub parents : Tree → ℕ → ℕ
-parents x b = (slice_index_or x.blocks b no_block).parent.value
+parents x b = parent_of (block_at x b)
 
 -- its places
 abbrev pub payloads : Tree → ℕ → List ℕ
-payloads x b = listed (slice_index_or x.blocks b no_block).payload
+payloads x b = places_of (block_at x b)
 
 -- the places of the chain of a block of round k
 unfoldable pub chain_places : Tree → ℕ → ℕ → List ℕ
 chain_places x k b = places_by (payloads x) (chain_by (parents x) k b)
-
--- whether the payload of a block of round k is sound on its parent's chain
-unfoldable pub sound_block : Model → Tree → ℕ → ℕ → Bool
-sound_block p x k b = sound p (chain_places x (k - 1) (parents x b)) (payloads x b)
 
 -- whether a block of round k is notarized, as far as a pool says
 unfoldable pub notarized_in : Model → Tree → (Said → Bool) → ℕ → ℕ → Bool

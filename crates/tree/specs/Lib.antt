@@ -1,3 +1,4 @@
--- Payloads and blocks as the rules speak of them.
+-- Payloads, blocks and chains as the rules speak of them.
 pub mod Payloads
 pub mod Blocks
+pub mod Chains

@@ -1,11 +1,12 @@
 -- The places of a payload.
-use Rattle.std.specs.Prelude.{ℕ, cond, List, take, Some, None, Option}
+use Rattle.std.specs.Prelude.{ℕ, cond, List, Some, None, Option}
+use Rattle.basics.specs.Elements.{elements}
 use Rattle.model.specs.Checks.{payload_ok}
 use Rattle.tree.specs.declared.payload.Payload.{Payload}
 
 -- the places, in their order
 abbrev pub listed : Payload → List ℕ
-listed x = take x.count x.places
+listed x = elements x.places
 
 -- the places of a payload, where there is one
 abbrev pub payload_list : Option Payload → Option (List ℕ)

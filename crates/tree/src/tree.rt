@@ -2,19 +2,75 @@
 use crate::payload::Payload;
 use basics::numbers::BlockNumber;
 
-pub mod blocks;
-pub mod walks;
+mod walks;
 
-/// A block: whether it was made, and then its parent and its payload.
-#[derive(Clone, Copy)]
+/// A block that was made: its parent and its payload.
+#[derive(Clone, Copy, Debug, PartialEq, Eq)]
 pub struct Block {
-    made: bool,
     parent: BlockNumber,
     payload: Payload,
 }
 
-/// The blocks by number. The root, 0, is never made: it is always there.
+/// The blocks by number, those that were made. The root, 0, is never made: it is always there.
 #[derive(Clone, Copy)]
 pub struct Tree {
-    blocks: [Block; 313],
+    blocks: [Option<Block>; 313],
+}
+
+impl Tree {
+    ghost use Rattle.std.specs.Prelude.{◌≡◌, ℕ, true, false, List, []};
+    ghost use Rattle.basics.specs.Put.{put};
+    ghost use Rattle.tree.specs.Payloads.{listed};
+    ghost use Rattle.tree.specs.Blocks.{mades, parents, payloads};
+
+    /// The tree with no block but the root.
+    pub fn new() -> Tree
+        ensures made { mades result ≡ (λ (b : ℕ). false) }
+        ensures parent { parents result ≡ (λ (b : ℕ). 0) }
+        ensures places { ◌≡◌ {A = ℕ → List ℕ} (payloads result) (λ b. []) }
+    {
+        Tree {
+            blocks: [None; 313],
+        }
+    }
+
+    /// Whether the block was made.
+    pub fn is_made(&self, block: BlockNumber) -> bool
+        ensures { result ≡ mades self.now block.value }
+    {
+        self.blocks[block.value() as usize].is_some()
+    }
+
+    /// The parent of a block; the root for a block that was not made.
+    pub fn parent(&self, block: BlockNumber) -> BlockNumber
+        ensures { result.value ≡ parents self.now block.value }
+    {
+        self.blocks[block.value() as usize].map_or(BlockNumber::capped(0), |made| made.parent)
+    }
+
+    /// The payload of a block; empty for a block that was not made.
+    pub fn payload(&self, block: BlockNumber) -> Payload
+        ensures { listed result ≡ payloads self.now block.value }
+    {
+        self.blocks[block.value() as usize].map_or(Payload::empty(), |made| made.payload)
+    }
+
+    // the places of a block; none for a block that was not made
+    fn places(&self, block: BlockNumber) -> &[u8]
+        ensures { result.now ≡ payloads self.now block.value }
+    {
+        match &self.blocks[block.value() as usize] {
+            Some(made) => made.payload.as_slice(),
+            None => &[],
+        }
+    }
+
+    /// Makes the block.
+    pub fn make(&mut self, block: BlockNumber, parent: BlockNumber, payload: Payload)
+        ensures made { mades self.new ≡ put block.value true (mades self.old) }
+        ensures parent { parents self.new ≡ put block.value parent.value (parents self.old) }
+        ensures places { payloads self.new ≡ put block.value (listed payload) (payloads self.old) }
+    {
+        self.blocks[block.value() as usize] = Some(Block { parent, payload });
+    }
 }

@@ -1,11 +1,5 @@
 //! Walks from a block to the root: soundness and validity.
-ghost use Rattle.std.specs.Prelude.{◌≡◌, ℕ, ◌<◌};
-ghost use Rattle.model.specs.Setup.{round_of};
-ghost use Rattle.model.specs.World.{unlike_all, sound};
-ghost use Rattle.messages.specs.Stored.{stored};
-ghost use Rattle.plans.specs.Planned.{model};
-ghost use Rattle.tree.specs.Payloads.{listed};
-ghost use Rattle.tree.specs.Blocks.{payloads, chain_places, sound_block, notarized_in, valid_in};
+ghost use Rattle.std.specs.Prelude.{◌≡◌, MatchOption};
 
 use super::Tree;
 use crate::payload::Payload;
@@ -14,115 +8,117 @@ use messages::message::Message;
 use messages::set::MessageSet;
 use plans::plan::Plan;
 
+// the chain of a block, of this round, as a plan judges it
+#[derive(Clone, Copy)]
+struct Chain<'a> {
+    plan: &'a Plan,
+    tree: &'a Tree,
+    round: u8,
+    block: BlockNumber,
+}
+
+impl Chain<'_> {
+    ghost use Rattle.model.specs.World.{unlike_all, sound};
+    ghost use Rattle.messages.specs.Stored.{stored};
+    ghost use Rattle.plans.specs.Planned.{model};
+    ghost use Rattle.tree.specs.Blocks.{notarized_in, valid_in};
+    ghost use Rattle.tree.specs.Chains.{places_on, HasParent};
+
+    // the chain of the parent; none of a block of round 0, the root
+    fn parent(self) -> Option<Self>
+        ensures { MatchOption result (self.entry.round ≡ 0) (HasParent self.entry) }
+    {
+        let round = self.round.checked_sub(1)?;
+        Some(Chain {
+            round,
+            block: self.tree.parent(self.block),
+            ..self
+        })
+    }
+
+    // whether no place of the chain is like x
+    fn is_unlike(self, x: u8) -> bool
+        ensures { result ≡ unlike_all (model self.entry.plan.now) x (places_on self.entry) }
+    {
+        let Some(parent) = self.parent() else {
+            return true;
+        };
+        self.plan.unlike(x, self.tree.places(self.block)) && parent.is_unlike(x)
+    }
+
+    // whether the places are sound on the chain
+    fn bears(self, places: &[u8]) -> bool
+        ensures { result ≡ sound (model self.entry.plan.now) (places_on self.entry) places.now }
+    {
+        places.iter().enumerate().all(|(i, x)| {
+            *x < self.plan.entries() && self.is_unlike(*x) && self.plan.unlike(*x, &places[..i])
+        })
+    }
+
+    // whether the pool says that the last block is notarized
+    #[cycle(walk)]
+    fn is_notarized(self, pool: &MessageSet) -> bool
+        ensures { let x = self.entry in result ≡ notarized_in (model x.plan.now) x.tree.now (stored pool.now) x.round x.block.value }
+    {
+        if self.round == 0 {
+            return self.block.value() == 0;
+        }
+        pool.contains(Message::Notarization(self.block)) && self.is_valid(pool)
+    }
+
+    // whether the pool says that the last block is valid
+    #[cycle(walk)]
+    fn is_valid(self, pool: &MessageSet) -> bool
+        ensures { let x = self.entry in result ≡ valid_in (model x.plan.now) x.tree.now (stored pool.now) x.round x.block.value }
+    {
+        let Some(parent) = self.parent() else {
+            return self.block.value() == 0;
+        };
+        pool.contains(Message::Block(self.block))
+            && parent.is_notarized(pool)
+            && parent.bears(self.tree.places(self.block))
+    }
+}
+
 impl Tree {
-    // whether no place of the block is like x
-    fn unlike_block(&self, plan: &Plan, x: u8, block: BlockNumber) -> bool
-        ensures { result ≡ unlike_all (model plan.now) x (payloads self.now block.value) }
-    {
-        let payload = self.payload(block);
-        plan.unlike(x, payload.as_slice())
-    }
+    ghost use Rattle.model.specs.Setup.{round_of};
+    ghost use Rattle.model.specs.World.{sound};
+    ghost use Rattle.messages.specs.Stored.{stored};
+    ghost use Rattle.plans.specs.Planned.{model};
+    ghost use Rattle.tree.specs.Payloads.{listed};
+    ghost use Rattle.tree.specs.Blocks.{chain_places, notarized_in, valid_in};
 
-    // whether no place of the chain of the block, of this round, is like x
-    fn unlike_chain(&self, plan: &Plan, x: u8, round: u8, block: BlockNumber) -> bool
-        ensures { result ≡ unlike_all (model plan.now) x (chain_places self.now round block.value) }
+    // the chain of the block, of this round
+    fn chain<'a>(&'a self, plan: &'a Plan, round: u8, block: BlockNumber) -> Chain<'a>
+        ensures { result ≡ record { plan = plan.entry; tree = self.entry; round = round; block = block } }
     {
-        let mut k = round;
-        let mut b = block;
-        while k > 0 {
-            if !self.unlike_block(plan, x, b) {
-                return false;
-            }
-            b = self.parent(b);
-            k -= 1;
+        Chain {
+            plan,
+            tree: self,
+            round,
+            block,
         }
-        true
-    }
-
-    // whether the places are sound on the chain of the block, of this round
-    fn sound_places(&self, plan: &Plan, round: u8, block: BlockNumber, places: &[u8]) -> bool
-        ensures { result ≡ sound (model plan.now) (chain_places self.now round block.value) places.now }
-    {
-        for i in 0..places.len() {
-            let x = places[i];
-            if x >= plan.entries() {
-                return false;
-            }
-            if !self.unlike_chain(plan, x, round, block) {
-                return false;
-            }
-            if !plan.unlike(x, &places[0..i]) {
-                return false;
-            }
-        }
-        true
     }
 
     /// Whether the payload is sound on the chain of the block, of this round.
     pub fn sound(&self, plan: &Plan, round: u8, block: BlockNumber, payload: &Payload) -> bool
         ensures { result ≡ sound (model plan.now) (chain_places self.now round block.value) (listed payload.now) }
     {
-        self.sound_places(plan, round, block, payload.as_slice())
-    }
-
-    // whether the payload of the block, of this round, is sound on its parent's chain
-    fn sound_block(&self, plan: &Plan, round: u8, block: BlockNumber) -> bool
-        requires { 0 < round }
-        ensures { result ≡ sound_block (model plan.now) self.now round block.value }
-    {
-        let payload = self.payload(block);
-        self.sound(plan, round - 1, self.parent(block), &payload)
-    }
-
-    // whether the pool says that the block, of this round, is notarized
-    fn notarized_at(&self, plan: &Plan, pool: &MessageSet, round: u8, block: BlockNumber) -> bool
-        ensures { result ≡ notarized_in (model plan.now) self.now (stored pool.now) round block.value }
-    {
-        let mut k = round;
-        let mut b = block;
-        while k > 0 {
-            if !pool.contains(Message::Block(b)) {
-                return false;
-            }
-            if !pool.contains(Message::Notarization(b)) {
-                return false;
-            }
-            if !self.sound_block(plan, k, b) {
-                return false;
-            }
-            b = self.parent(b);
-            k -= 1;
-        }
-        b.value() == 0
-    }
-
-    // whether the pool says that the block, of this round, is valid
-    fn valid_at(&self, plan: &Plan, pool: &MessageSet, round: u8, block: BlockNumber) -> bool
-        ensures { result ≡ valid_in (model plan.now) self.now (stored pool.now) round block.value }
-    {
-        if round == 0 {
-            return block.value() == 0;
-        }
-        if !pool.contains(Message::Block(block)) {
-            return false;
-        }
-        if !self.notarized_at(plan, pool, round - 1, self.parent(block)) {
-            return false;
-        }
-        self.sound_block(plan, round, block)
+        self.chain(plan, round, block).bears(payload.as_slice())
     }
 
     /// Whether the block is notarized, as far as the pool says.
     pub fn notarized(&self, plan: &Plan, pool: &MessageSet, block: BlockNumber) -> bool
         ensures { result ≡ notarized_in (model plan.now) self.now (stored pool.now) (round_of (model plan.now) block.value) block.value }
     {
-        self.notarized_at(plan, pool, plan.round_of(block), block)
+        self.chain(plan, plan.round_of(block), block)
+            .is_notarized(pool)
     }
 
     /// Whether the block is valid, as far as the pool says.
     pub fn valid(&self, plan: &Plan, pool: &MessageSet, block: BlockNumber) -> bool
         ensures { result ≡ valid_in (model plan.now) self.now (stored pool.now) (round_of (model plan.now) block.value) block.value }
     {
-        self.valid_at(plan, pool, plan.round_of(block), block)
+        self.chain(plan, plan.round_of(block), block).is_valid(pool)
     }
 }
