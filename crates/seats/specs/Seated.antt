@@ -8,6 +8,7 @@ use Rattle.model.specs.World.{Message as Said}
 use Rattle.messages.specs.Stored.{stored}
 use Rattle.seats.specs.declared.seat.Phase.{Phase}
 use Rattle.seats.specs.declared.seat.Phase.TheVariants.{Waiting, InRound, Done}
+use Rattle.seats.specs.declared.seat.Progress.{Progress}
 use Rattle.seats.specs.declared.seat.Seat.{Seat}
 
 -- the phase
@@ -16,9 +17,9 @@ stage Waiting = waiting
 stage InRound = in_round
 stage Done = done
 
--- the seat of the rules
-abbrev pub seated : Seat → ModelSeat
-seated x = record {
+-- the seat of the rules that has come so far
+abbrev pub progressed : Progress → ModelSeat
+progressed x = record {
   phase = stage x.phase;
   round = x.round.value;
   clock = x.clock;
@@ -29,6 +30,10 @@ seated x = record {
   k_max = x.k_max;
   catalogue = take x.k_max x.catalogue;
 }
+
+-- the seat of the rules
+abbrev pub seated : Seat → ModelSeat
+seated x = progressed x.progress
 
 -- the pool of a seat
 abbrev pub pooled : Seat → Said → Bool

@@ -14,7 +14,7 @@ pub mod search;
 pub mod state;
 
 /// Where a seat is.
-#[derive(Clone, Copy)]
+#[derive(Clone, Copy, Debug, PartialEq, Eq)]
 pub enum Phase {
     /// it waits for its round
     Waiting,
@@ -33,10 +33,17 @@ pub struct Standing {
     pub catalogue: [u16; 8],
 }
 
-/// A seat: its phase and round, its clock and the start of its round, whether it proposed, the blocks it noted and the ranks it
-/// disqualified in its round, how far it committed, its catalogue and its pool.
+/// A seat: how far it has come, and its pool. Calls move the first, and what arrives or is posted comes into the second.
 #[derive(Clone, Copy)]
 pub struct Seat {
+    progress: Progress,
+    pool: MessageSet,
+}
+
+// How far a seat has come: its phase and round, its clock and the start of its round, whether it proposed, the blocks it noted and the
+// ranks it disqualified in its round, and its catalogue.
+#[derive(Clone, Copy)]
+struct Progress {
     phase: Phase,
     round: Round,
     clock: u32,
@@ -49,6 +56,5 @@ pub struct Seat {
     // the highest committed round: so many blocks are in the catalogue, lowest round first
     k_max: u8,
     catalogue: [u16; 8],
-    pool: MessageSet,
     ghost committed: { k_max ≤ 8 },
 }
