@@ -1,8 +1,8 @@
 -- A delivery: what refuses it, and that it is accepted where the message exists.
-use Rattle.std.proofs.Common.{◌≡◌, ℕ, Bool, true, false, cond, drop, Ok, Err, ap, ◌∙◌, sym, arith}
+use Rattle.std.proofs.Common.{◌≡◌, ℕ, true, false, cond, drop, Ok, Err, ap, ◌∙◌, sym, arith}
 use Rattle.model.specs.Setup.{Plan as Model}
 use Rattle.model.specs.Setup.{honest}
-use Rattle.model.specs.World.{World, message, exists}
+use Rattle.model.specs.World.{World, exists}
 use Rattle.model.specs.World.{Message as Said}
 use Rattle.model.specs.Checks.{checks, verdict}
 use Rattle.model.specs.Checks.Call.{deliver}
@@ -14,9 +14,6 @@ use Rattle.hall.specs.Answers.{seat_if, message_if}
 use Rattle.hall.proofs.Steps.{seat_found, message_found}
 
 module _ (p : Model) (w : World) (s kind signer x : ℕ) where
-  pub no_seat : (f : HallFault) → Err f ≡ seat_if p (honest p s) s → fault_verdict s x f ≡ verdict p w (deliver s kind signer x)
-  no_seat f e = grind arith
-
   module _ (i : ℕ) (seat : Ok i ≡ seat_if p (honest p s) s) where
     pub no_message : (f : HallFault) → Err f ≡ message_if p w kind signer x → fault_verdict s x f ≡ verdict p w (deliver s kind signer x)
     no_message f e = grind arith

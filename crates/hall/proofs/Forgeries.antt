@@ -4,7 +4,7 @@ use Rattle.std.specs.Option.{ok_or}
 use Rattle.model.specs.Setup.{Plan as Model}
 use Rattle.model.specs.Setup.{honest}
 use Rattle.model.specs.World.{World}
-use Rattle.model.specs.Checks.{verdict, known, payload_ok}
+use Rattle.model.specs.Checks.{verdict}
 use Rattle.model.specs.Checks.Call.{forge}
 use Rattle.seats.specs.Desk.{verdict_past}
 use Rattle.tree.specs.Payloads.{payload_list, list_if_ok}
@@ -14,21 +14,17 @@ use Rattle.hall.specs.declared.fault.HallFault.TheVariants.{OutOfRange}
 use Rattle.hall.specs.Faults.{fault_verdict}
 use Rattle.hall.specs.Answers.{seat_if, block_if, round_if}
 
-module _ (p : Model) (w : World) (s k par : ℕ) (xs : List ℕ) where
-  pub no_seat : (f : HallFault) → Err f ≡ seat_if p (not (honest p s)) s → fault_verdict s par f ≡ verdict p w (forge s k par xs)
-  no_seat f e = grind arith
+module _ (p : Model) (w : World) (s k par : ℕ) (xs : List ℕ) (i : ℕ) (seat : Ok i ≡ seat_if p (not (honest p s)) s) where
+  pub no_round : (f : HallFault) → Err f ≡ round_if p k → fault_verdict s par f ≡ verdict p w (forge s k par xs)
+  no_round f e = grind arith
 
-  module _ (i : ℕ) (seat : Ok i ≡ seat_if p (not (honest p s)) s) where
-    pub no_round : (f : HallFault) → Err f ≡ round_if p k → fault_verdict s par f ≡ verdict p w (forge s k par xs)
-    no_round f e = grind arith
+  pub no_parent : (f : HallFault) → Err f ≡ block_if p w par → fault_verdict s par f ≡ verdict p w (forge s k par xs)
+  no_parent f e = grind arith
 
-    pub no_parent : (f : HallFault) → Err f ≡ block_if p w par → fault_verdict s par f ≡ verdict p w (forge s k par xs)
-    no_parent f e = grind arith
+  pub no_payload : (o : Option Payload) (f : HallFault) → payload_list o ≡ list_if_ok xs → Err f ≡ ok_or o OutOfRange → fault_verdict s par f ≡ verdict p w (forge s k par xs)
+  no_payload None f places e = grind arith
+  no_payload (Some y) f places e = cc
 
-    pub no_payload : (o : Option Payload) (f : HallFault) → payload_list o ≡ list_if_ok xs → Err f ≡ ok_or o OutOfRange → fault_verdict s par f ≡ verdict p w (forge s k par xs)
-    no_payload None f places e = grind arith
-    no_payload (Some y) f places e = cc
-
-    pub all_found : (j b : ℕ) (ys : List ℕ) → Ok j ≡ round_if p k → Ok b ≡ block_if p w par → Some ys ≡ list_if_ok xs
-        → (i ≡ s) × (j ≡ k) × (b ≡ par) × (ys ≡ xs) × (verdict p w (forge s k par xs) ≡ verdict_past 3 p w (forge s k par xs))
-    all_found j b ys round parent places = (grind arith, grind arith, grind arith, grind arith, grind arith)
+  pub all_found : (j b : ℕ) (ys : List ℕ) → Ok j ≡ round_if p k → Ok b ≡ block_if p w par → Some ys ≡ list_if_ok xs
+      → (i ≡ s) × (j ≡ k) × (b ≡ par) × (ys ≡ xs) × (verdict p w (forge s k par xs) ≡ verdict_past 3 p w (forge s k par xs))
+  all_found j b ys round parent places = (grind arith, grind arith, grind arith, grind arith, grind arith)

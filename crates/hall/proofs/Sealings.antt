@@ -1,18 +1,16 @@
 -- The seal of a corrupt seat: what refuses it, that it is accepted where nothing does, and that it can then be in a book.
-use Rattle.std.proofs.Common.{◌≡◌, ℕ, ◌*◌, ◌<◌, ◌≤◌, Bool, true, false, cond, not, ◌&&◌, ◌||◌, eqb, ltb, leb, Ok, Err, sym, refl, ap, ◌∙◌, ⊎_elim, mul-le-mul, arith}
-use Rattle.std.proofs.lemmas.Bool.{ne_eqb, cases_eq, eq-eqb, cond-true, cond-false, and_parts, or_cases, ltb-true, leb-true, eqb-true, not-true}
+use Rattle.std.proofs.Common.{◌≡◌, ℕ, Bool, true, false, not, ◌||◌, eqb, Ok, Err, arith}
 use Rattle.std.proofs.lemmas.Bool.Decides.{nat_tests}
 use Rattle.model.specs.Setup.{Plan as Model}
-use Rattle.model.specs.Setup.{numbers, honest}
+use Rattle.model.specs.Setup.{honest}
 use Rattle.model.specs.World.{World}
 use Rattle.model.specs.World.{Message as Said}
-use Rattle.model.specs.Checks.{verdict, known, in_range}
+use Rattle.model.specs.Checks.{verdict, in_range}
 use Rattle.model.specs.Checks.Call.{seal}
 use Rattle.model.specs.Checks.Verdict.{accepted}
 use Rattle.plans.specs.declared.plan.Plan.{Plan}
 use Rattle.plans.specs.Planned.{model}
 use Rattle.seals.specs.Seals.{allowed}
-use Rattle.seats.proofs.Posting.{allowed_block, allowed_round}
 use Rattle.hall.specs.declared.fault.HallFault.{HallFault}
 use Rattle.hall.specs.declared.fault.HallFault.TheVariants.{OutOfRange, Repeated}
 use Rattle.hall.specs.Faults.{fault_verdict}
@@ -22,9 +20,6 @@ module _ (p : Model) (w : World) (s kind x : ℕ) where
   -- whether messages of this kind are sealed by one seat
   abbrev shared : Bool
   shared = eqb kind 2 || (eqb kind 4 || eqb kind 6)
-
-  pub no_seat : (f : HallFault) → Err f ≡ seat_if p (not (honest p s)) s → fault_verdict s x f ≡ verdict p w (seal s kind x)
-  no_seat f e = grind arith
 
   module _ (i : ℕ) (seat : Ok i ≡ seat_if p (not (honest p s)) s) where
     pub wrong_kind : shared ≡ false → fault_verdict s x OutOfRange ≡ verdict p w (seal s kind x)

@@ -1,12 +1,12 @@
 -- From what the parts of a call promise to what the rules say of the call.
-use Rattle.std.proofs.Common.{◌≡◌, ℕ, Bool, true, false, cond, not, ◌&&◌, ◌||◌, eqb, ltb, leb, List, [], ◌∷◌, ◌++◌, Ok, Err, Result, sym, refl, ap, ◌∙◌, subst, ap₂, arith}
+use Rattle.std.proofs.Common.{◌≡◌, ℕ, Bool, true, false, cond, ltb, List, [], ◌∷◌, ◌++◌, drop, Ok, Err, Result, sym, refl, ap, ◌∙◌, subst, ap₂, arith}
 use Rattle.std.proofs.lemmas.Result.{err_from_is_err_and}
 use Rattle.std.specs.Result.{IsErrAnd}
-use Rattle.std.proofs.lemmas.Bool.{cond-true, cond-false, ne_eqb}
+use Rattle.std.proofs.lemmas.Bool.{cond-true, cond-false}
 use Rattle.model.specs.Setup.{Plan as Model}
 use Rattle.model.specs.World.{World, message}
 use Rattle.model.specs.World.{Message as Said}
-use Rattle.model.specs.Checks.{Call, Check, Verdict, caller, verdict, first_failed, known, in_range}
+use Rattle.model.specs.Checks.{Call, Check, Verdict, caller, checks, verdict, first_failed, known, in_range}
 use Rattle.model.specs.Checks.Check.{must}
 use Rattle.model.specs.Checks.Verdict.{accepted, refused}
 use Rattle.model.specs.Effects.{is_accepted, after, effect, broadcast, seals, seat_after, with_new_block}
@@ -21,7 +21,7 @@ use Rattle.seats.specs.Faults.{seat_fault_number, seat_fault_subject}
 use Rattle.seats.specs.Desk.{verdict_past, accepts}
 use Rattle.hall.specs.declared.hall.Hall.{Hall}
 use Rattle.hall.specs.declared.fault.HallFault.{HallFault}
-use Rattle.hall.specs.declared.fault.HallFault.TheVariants.{NoSeat, OtherSort, OutOfRange, Seat}
+use Rattle.hall.specs.declared.fault.HallFault.TheVariants.{Seat}
 use Rattle.hall.specs.Faults.{fault_verdict, answer}
 use Rattle.hall.specs.Worlds.{world}
 use Rattle.hall.specs.Steps.{posting, seating, Ran, Decided}
@@ -32,7 +32,7 @@ pub seat_found : (p : Model) (ok : Bool) (s x i : ℕ) (rest : List Check) → O
     → (i ≡ s) × ((ltb s p.n ≡ true) × (first_failed (must (ltb s p.n) 8 3 s x ∷ must ok 9 3 s x ∷ rest) ≡ first_failed rest))
 seat_found p ok s x i rest e = (grind arith, (grind arith, grind arith))
 
-pub seat_missed : (p : Model) (ok : Bool) (s x : ℕ) (f : HallFault) (rest : List Check) → Err f ≡ seat_if p ok s
+seat_missed : (p : Model) (ok : Bool) (s x : ℕ) (f : HallFault) (rest : List Check) → Err f ≡ seat_if p ok s
     → fault_verdict s x f ≡ first_failed (must (ltb s p.n) 8 3 s x ∷ must ok 9 3 s x ∷ rest)
 seat_missed p ok s x f rest e = grind arith
 
@@ -40,7 +40,7 @@ pub block_found : (p : Model) (w : World) (s b i : ℕ) (rest : List Check) → 
     → (i ≡ b) × ((known p w b ≡ true) × (first_failed (must (known p w b) 10 3 s b ∷ rest) ≡ first_failed rest))
 block_found p w s b i rest e = (grind arith, (grind arith, grind arith))
 
-pub block_missed : (p : Model) (w : World) (s b : ℕ) (f : HallFault) (rest : List Check) → Err f ≡ block_if p w b
+block_missed : (p : Model) (w : World) (s b : ℕ) (f : HallFault) (rest : List Check) → Err f ≡ block_if p w b
     → fault_verdict s b f ≡ first_failed (must (known p w b) 10 3 s b ∷ rest)
 block_missed p w s b f rest e = grind arith
 
@@ -101,6 +101,13 @@ module _ {B : Type 0} (held : B → ℕ → ℕ → ℕ → Bool) (h : Hall B) (
         refuses h' s x (Seat f) ran.plan_stays (ran.judged ∙ sym past)
         (ran.left ∙ cond-false (accepts k p w c) (seating (caller c) (seat_after p w c) (seals p w c) (with_new_block p w c)) w stop)
 
+    -- the same, where a `?` hands the refusal on
+    pub rule_turned_away : (h' : Hall B) (s x : ℕ) (f : SeatFault) (r : Result (Unit {0}) HallFault) {out : List Said} → IsErrAnd r (λ e. e ≡ Seat f)
+        → Ran held k h h' c (refused (seat_fault_number f) 4 s (seat_fault_subject x f)) out → Called held h h' c (answer s x r)
+    rule_turned_away h' s x f r handed ran =
+        let q = err_from_is_err_and r handed in
+        subst (λ (o : Result (Unit {0}) HallFault). Called held h h' c (answer s x o)) (sym (q.1 ∙ ap Err q.2)) (rule_refused h' s x f ran)
+
     pub rule_accepted : (h₁ h' : Hall B) (out : List Said) → Ran held k h h₁ c accepted out → h'.plan ≡ h₁.plan
         → world held h' ≡ posting (caller c) out (world held h₁)
         → posting (caller c) (broadcast (model h.plan) (world held h) c) (seating (caller c) (seat_after (model h.plan) (world held h) c) (seals (model h.plan) (world held h) c) (with_new_block (model h.plan) (world held h) c)) ≡ effect (model h.plan) (world held h) c
@@ -122,3 +129,33 @@ module _ {B : Type 0} (held : B → ℕ → ℕ → ℕ → Bool) (h : Hall B) (
         let p = model h.plan in
         let w = world held h in
         settles h' v d.plan_stays (d.judged ∙ sym past) (d.left ∙ ap (λ (u : Verdict). cond (is_accepted u) (effect p w c) w) (sym past))
+
+-- The first checks of a call c that names x: that there is such a seat, and of the right sort.
+module _ {B : Type 0} (held : B → ℕ → ℕ → ℕ → Bool) (h : Hall B) (c : Call) (ok : Bool) (x : ℕ) (begins : checks (model h.plan) (world held h) c
+    ≡ must (ltb (caller c) h.plan.seats) 8 3 (caller c) x ∷ must ok 9 3 (caller c) x ∷ drop 2 (checks (model h.plan) (world held h) c)) where
+  pub seat_refused : (f : HallFault) (r : Result (Unit {0}) HallFault) → Err f ≡ seat_if (model h.plan) ok (caller c) → IsErrAnd r (λ e. e ≡ f)
+      → Called held h h c (answer (caller c) x r)
+  seat_refused f r e handed =
+      turned_away held h c (caller c) x f r handed
+      (seat_missed (model h.plan) ok (caller c) x f (drop 2 (checks (model h.plan) (world held h) c)) e ∙ sym (ap first_failed begins))
+
+  module _ (i : ℕ) (seat : Ok i ≡ seat_if (model h.plan) ok (caller c)) where
+    pub past_seat : (i ≡ caller c) × (verdict (model h.plan) (world held h) c ≡ verdict_past 2 (model h.plan) (world held h) c)
+    past_seat =
+        let q = seat_found (model h.plan) ok (caller c) x i (drop 2 (checks (model h.plan) (world held h) c)) seat in
+        (q.0, ap first_failed begins ∙ q.1.1)
+
+    -- the next check: that the block is known
+    module _ (next : drop 2 (checks (model h.plan) (world held h) c)
+        ≡ must (known (model h.plan) (world held h) x) 10 3 (caller c) x ∷ drop 3 (checks (model h.plan) (world held h) c)) where
+      pub block_refused : (f : HallFault) (r : Result (Unit {0}) HallFault) → Err f ≡ block_if (model h.plan) (world held h) x → IsErrAnd r (λ e. e ≡ f)
+          → Called held h h c (answer (caller c) x r)
+      block_refused f r e handed =
+          turned_away held h c (caller c) x f r handed
+          (block_missed (model h.plan) (world held h) (caller c) x f (drop 3 (checks (model h.plan) (world held h) c)) e ∙ sym (past_seat.1 ∙ ap first_failed next))
+
+      pub past_block : (j : ℕ) → Ok j ≡ block_if (model h.plan) (world held h) x
+          → (j ≡ x) × (verdict (model h.plan) (world held h) c ≡ verdict_past 3 (model h.plan) (world held h) c)
+      past_block j block =
+          let q = block_found (model h.plan) (world held h) (caller c) x j (drop 3 (checks (model h.plan) (world held h) c)) block in
+          (q.0, past_seat.1 ∙ ap first_failed next ∙ q.1.1)

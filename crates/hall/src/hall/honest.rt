@@ -102,9 +102,7 @@ impl<B: SealBook> Hall<B> {
     {
         let who = self.seat_of(Sort::Honest, seat)?;
         let known = self.known_block(parent)?;
-        let Some(payload) = Payload::new(places) else {
-            return Err(HallFault::OutOfRange);
-        };
+        let payload = Payload::new(places).ok_or(HallFault::OutOfRange)?;
         let outgoing = self.run_propose(who, known, payload)?;
         self.post(who, outgoing);
         Ok(())

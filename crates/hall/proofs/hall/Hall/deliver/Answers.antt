@@ -14,18 +14,14 @@ use Rattle.seats.proofs.Posting.{joined_one}
 use Rattle.hall.specs.declared.fault.HallFault.TheVariants.{NoMessage}
 use Rattle.hall.specs.Worlds.{world, no_seat}
 use Rattle.hall.proofs.Updates.{arrived_at}
-use Rattle.hall.proofs.Steps.{seat_found, message_found, refuses, turned_away, accepts_call}
+use Rattle.hall.proofs.Steps.{seat_refused, seat_found, message_found, refuses, turned_away, accepts_call}
 use Rattle.hall.proofs.Deliveries.{no_message, not_there, is_there}
-use Rattle.hall.proofs.Deliveries.{no_seat as no_seat_there}
 use Rattle.hall.proofs.hall.Hall.deliver.Goals as goal
 
 pub returns-in_err-who : goal.returns-in_err-who
 returns-in_err-who g c =
-    let h = c.args.self.now in
-    let s = c.args.seat in
-    let x = c.args.subject in
-    turned_away g.B.SealView.held h (deliver s c.args.kind c.args.signer x) s x _ _ c.from_residual.ensures.1
-    (no_seat_there (model h.plan) (world g.B.SealView.held h) s c.args.kind c.args.signer x _ c.in_err-who.ensures)
+    seat_refused g.B.SealView.held c.args.self.now (deliver c.args.seat c.args.kind c.args.signer c.args.subject) _ c.args.subject refl _ _
+    c.in_err-who.ensures c.from_residual.ensures.1
 
 pub returns-in_err-m : goal.returns-in_err-m
 returns-in_err-m g c =

@@ -1,24 +1,19 @@
-use Rattle.std.proofs.Common.{◌≡◌, ℕ, List, sym, ap, ◌∙◌, subst}
+use Rattle.std.proofs.Common.{sym, refl, ap, ◌∙◌}
 use Rattle.model.specs.Checks.Call.{forge}
 use Rattle.plans.specs.Planned.{model}
 use Rattle.tree.specs.Payloads.{payload_list}
 use Rattle.tree.specs.Payloads.{listed as places_of_payload}
 use Rattle.hall.specs.Faults.{answer}
 use Rattle.hall.specs.Worlds.{world}
-use Rattle.hall.specs.Steps.{Decided}
 use Rattle.hall.specs.Answers.{round_if}
-use Rattle.hall.proofs.Steps.{turned_away, decided}
-use Rattle.hall.proofs.Forgeries.{no_seat, no_round, no_parent, no_payload, all_found}
+use Rattle.hall.proofs.Steps.{seat_refused, turned_away, decided}
+use Rattle.hall.proofs.Forgeries.{no_round, no_parent, no_payload, all_found}
 use Rattle.hall.proofs.hall.Hall.forge.Goals as goal
 
 pub returns-in_err-who : goal.returns-in_err-who
 returns-in_err-who g c =
-    let h = c.args.self.now in
-    let s = c.args.seat in
-    let par = c.args.parent in
-    let xs = c.args.places.now in
-    turned_away g.B.SealView.held h (forge s c.args.round par xs) s par _ _ c.from_residual.ensures.1
-    (no_seat (model h.plan) (world g.B.SealView.held h) s c.args.round par xs _ c.in_err-who.ensures)
+    seat_refused g.B.SealView.held c.args.self.now (forge c.args.seat c.args.round c.args.parent c.args.places.now) _ c.args.parent refl _ _
+    c.in_err-who.ensures c.from_residual.ensures.1
 
 pub returns-in_err-named : goal.returns-in_err-named
 returns-in_err-named g c =

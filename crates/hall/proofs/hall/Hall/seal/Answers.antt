@@ -1,4 +1,4 @@
-use Rattle.std.proofs.Common.{◌≡◌, Bool, true, false, ◌||◌, eqb, [], ◌∷◌, sym, refl, ◌∙◌, arith}
+use Rattle.std.proofs.Common.{◌≡◌, true, false, ◌||◌, eqb, [], ◌∷◌, sym, refl, ◌∙◌, arith}
 use Rattle.std.proofs.lemmas.Bool.Decides.{nat_tests}
 use Rattle.model.specs.World.{message}
 use Rattle.model.specs.Checks.Call.{seal}
@@ -7,18 +7,14 @@ use Rattle.seats.specs.Desk.{sealed_with}
 use Rattle.hall.specs.declared.fault.HallFault.TheVariants.{OutOfRange, Repeated}
 use Rattle.hall.specs.Worlds.{world}
 use Rattle.hall.proofs.Updates.{quietly}
-use Rattle.hall.proofs.Steps.{message_found, refuses, turned_away, accepts_call}
+use Rattle.hall.proofs.Steps.{seat_refused, message_found, refuses, turned_away, accepts_call}
 use Rattle.seats.proofs.Posting.{added_one}
-use Rattle.hall.proofs.Sealings.{no_seat, wrong_kind, no_message, sealed_before, sealable, sealable_allowed}
+use Rattle.hall.proofs.Sealings.{wrong_kind, no_message, sealed_before, sealable, sealable_allowed}
 use Rattle.hall.proofs.hall.Hall.seal.Goals as goal
 
 pub returns-in_err-seat_of : goal.returns-in_err-seat_of
 returns-in_err-seat_of g c =
-    let h = c.args.self.now in
-    let s = c.args.seat in
-    let x = c.args.subject in
-    turned_away g.B.SealView.held h (seal s c.args.kind x) s x _ _ c.from_residual.ensures.1
-    (no_seat (model h.plan) (world g.B.SealView.held h) s c.args.kind x _ c.in_err-seat_of.ensures)
+    seat_refused g.B.SealView.held c.args.self.now (seal c.args.seat c.args.kind c.args.subject) _ c.args.subject refl _ _ c.in_err-seat_of.ensures c.from_residual.ensures.1
 
 pub returns-then-not-matches : goal.returns-then-not-matches
 returns-then-not-matches g c =
