@@ -5,7 +5,6 @@ ghost use Rattle.basics.specs.Count.{tally};
 ghost use Rattle.model.specs.World.{exists};
 ghost use Rattle.model.specs.Checks.Call.{deliver as Deliver};
 ghost use Rattle.messages.specs.Meaning.{means, share_kind, share_subject};
-ghost use Rattle.messages.specs.declared.message.Message.TheVariants.{Signed};
 ghost use Rattle.plans.specs.Planned.{model};
 ghost use Rattle.hall.specs.Faults.{answer};
 ghost use Rattle.hall.specs.Worlds.{world};
@@ -70,25 +69,15 @@ impl<B: SealBook> Hall<B> {
         self.block_message(kind, signer, block)
     }
 
-    // how many of the seats have sealed this
-    fn sealed_count(&self, kind: u8, subject: u16) -> u8
-        ensures { result ≡ tally (λ s. B.SealView.held self.now.book kind s subject) (model self.now.plan).n }
+    // how many of the seats have sealed the share
+    fn sealed_count(&self, share: Share) -> u8
+        ensures { result ≡ tally (λ s. B.SealView.held self.now.book (share_kind share) s (share_subject share)) (model self.now.plan).n }
     {
+        let kind = share.kind();
+        let subject = share.subject();
         (0..self.plan.seats())
             .filter(|&seat| self.book.asked(kind, seat, subject))
             .count() as u8
-    }
-
-    // whether the share is sealed
-    fn share_exists(&self, share: Share, signer: SeatIndex) -> bool
-        ensures { result ≡ exists (model self.now.plan) (world B.SealView.held self.now) (means (Signed share signer)) }
-    {
-        let seat = signer.value();
-        match share {
-            Share::Notarization(block) => self.book.asked(2, seat, block.value()),
-            Share::Finalization(block) => self.book.asked(4, seat, block.value()),
-            Share::Beacon(round) => self.book.asked(6, seat, round.value() as u16),
-        }
     }
 
     /// Whether the message exists: a block when it is made, a share when its signer has sealed it, a notarization or finalization when a
@@ -98,11 +87,15 @@ impl<B: SealBook> Hall<B> {
     {
         match m {
             Message::Block(block) => self.tree.is_made(block),
-            Message::Signed(share, signer) => self.share_exists(share, signer),
-            Message::Notarization(block) => self.sealed_count(2, block.value())
-                >= self.plan.quorum(),
-            Message::Finalization(block) => self.sealed_count(4, block.value())
-                >= self.plan.quorum(),
+            Message::Signed(share, signer) => {
+                self.book.asked(share.kind(), signer.value(), share.subject())
+            }
+            Message::Notarization(block) => {
+                self.sealed_count(Share::Notarization(block)) >= self.plan.quorum()
+            }
+            Message::Finalization(block) => {
+                self.sealed_count(Share::Finalization(block)) >= self.plan.quorum()
+            }
         }
     }
 

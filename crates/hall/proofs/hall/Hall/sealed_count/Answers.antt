@@ -1,14 +1,17 @@
-use Rattle.std.proofs.Common.{ℕ, Bool, ap, ◌∙◌, rules}
+use Rattle.std.proofs.Common.{ℕ, Bool, ap, ap₂, ◌∙◌, rules}
 use borrow.Author.Tests.{tests}
 use Rattle.std.proofs.lemmas.Iterator.Consumers.{YieldsList-at, YieldsList-from_filter, count_from_yields_List}
 use Rattle.basics.specs.Count.{tally}
+use Rattle.plans.specs.Planned.{model}
 use Rattle.hall.proofs.Counts.{range_below, length-filter-range}
 use Rattle.hall.proofs.hall.Hall.sealed_count.Goals as goal
 
 pub returns : goal.returns
 returns g c =
-    let test : ℕ → Bool = λ s. g.B.SealView.held c.args.self.now.book c.args.kind s c.args.subject in
+    let sealed : ℕ → ℕ → ℕ → Bool = λ k x s. g.B.SealView.held c.args.self.now.book k s x in
+    let test = sealed c.kind.result c.subject.result in
     let n = c.seats.result in
     count_from_yields_List c.filter.result c.count.result c.count.ensures.ran
-    (YieldsList-from_filter _ test (YieldsList-at c.filter.ensures.source (range_below n)) c.filter.ensures.closure (λ x r q k. search (rules, tests)))
+        (YieldsList-from_filter _ test (YieldsList-at c.filter.ensures.source (range_below n)) c.filter.ensures.closure (λ x r q k. search (rules, tests)))
     ∙ length-filter-range test n ∙ ap (tally test) c.seats.ensures.is
+    ∙ ap₂ (λ (k x : ℕ). tally (sealed k x) (model c.args.self.now.plan).n) c.kind.ensures c.subject.ensures
