@@ -12,6 +12,7 @@ ghost use Rattle.seats.specs.declared.fault.SeatFault.TheVariants.{Clock};
 
 use super::{Phase, Progress, Seat, Standing};
 use crate::fault::SeatFault;
+use basics::inline_list::InlineList;
 use basics::numbers::Round;
 use messages::message::Message;
 use messages::set::MessageSet;
@@ -55,8 +56,7 @@ impl Seat {
             proposed: false,
             noted: [false; 313],
             disqualified: 0,
-            k_max: 0,
-            catalogue: [0; 8],
+            catalogue: InlineList::empty(),
         };
         Seat {
             progress,
@@ -83,26 +83,24 @@ impl Seat {
         ensures is { result ≡ (seated self.now).k_max }
         ensures few { result ≤ 8 }
     {
-        self.progress.k_max
+        self.progress.catalogue.len() as u8
     }
 
     /// The numbers of the committed blocks, lowest round first.
     pub fn catalogue(&self) -> &[u16]
         ensures { result.now ≡ (seated self.now).catalogue }
     {
-        &self.progress.catalogue[0..self.progress.k_max as usize]
+        self.progress.catalogue.as_slice()
     }
 
     /// How the seat stands.
-    pub fn standing(&self) -> Standing
+    pub fn standing(&self) -> Standing<'_>
         ensures { Stands result (seated self.now) }
     {
-        let catalogue = self.progress.catalogue;
         Standing {
             phase: self.progress.phase,
-            round: self.progress.round.value(),
-            k_max: self.progress.k_max,
-            catalogue,
+            round: self.progress.round,
+            catalogue: self.progress.catalogue.as_slice(),
         }
     }
 
