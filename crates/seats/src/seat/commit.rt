@@ -41,10 +41,7 @@ impl Seat {
         ensures beyond { 8 < round_of (model at.entry.plan.now) block.value → result ≡ Err WrongRound }
     {
         let round = at.plan.round_of(block);
-        if round > 8 {
-            return Err(SeatFault::WrongRound);
-        }
-        if self.k_max() >= round {
+        if round > 8 || self.k_max() >= round {
             return Err(SeatFault::WrongRound);
         }
         if !at.tree.valid(at.plan, &self.pool, block) {

@@ -18,5 +18,5 @@ returns-then-from-len-clause-listed t c =
     ∙ chain_block par n c.args.to b list more
 
 pub returns-else-from-len-clause-listed : goal.returns-else-from-len-clause-listed
-returns-else-from-len-clause-listed t c = 
+returns-else-from-len-clause-listed t c =
     chain_done (parents c.args.tree.now) c.args.to c.args.block.value (elements c.args.list.now) (omega arith)
