@@ -25,7 +25,7 @@ pub enum Phase {
 
 /// How a seat stands: its phase, its round, and the committed blocks, lowest round first, of which there are as many as the highest
 /// committed round says.
-#[derive(Clone, Copy)]
+#[derive(Clone, Copy, Debug, PartialEq, Eq)]
 pub struct Standing<'a> {
     pub phase: Phase,
     pub round: Round,

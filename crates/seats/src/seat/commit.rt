@@ -65,12 +65,8 @@ impl Seat {
         ensures pool { self.new.pool ≡ self.old.pool }
     {
         self.may_commit(at, block)?;
-        list_chain(
-            at.tree,
-            &mut self.progress.catalogue,
-            at.plan.round_of(block),
-            block,
-        );
+        let round = at.plan.round_of(block);
+        list_chain(at.tree, &mut self.progress.catalogue, round, block);
         Ok(Outgoing {
             block: None,
             whole: Some(Message::Finalization(block)),

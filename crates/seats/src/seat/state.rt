@@ -106,7 +106,7 @@ impl Seat {
 
     /// What setting the clock to this time would answer: a clock never goes back, nor past 1,000,000,000.
     pub fn may_tick(&self, time: u32) -> Result<(), SeatFault>
-        ensures { result ≡ (if nat_le self.now.progress.clock time && nat_le time 1000000000 then Ok tt else Err Clock) }
+        ensures { result ≡ (if nat_le (seated self.now).clock time && nat_le time 1000000000 then Ok tt else Err Clock) }
     {
         if time < self.progress.clock || time > 1000000000 {
             return Err(SeatFault::Clock);
@@ -116,8 +116,8 @@ impl Seat {
 
     /// Sets the clock.
     pub fn tick(&mut self, time: u32) -> Result<(), SeatFault>
-        ensures answer { result ≡ (if nat_le self.old.progress.clock time && nat_le time 1000000000 then Ok tt else Err Clock) }
-        ensures seat { seated self.new ≡ (if nat_le self.old.progress.clock time && nat_le time 1000000000 then at_clock time (seated self.old) else seated self.old) }
+        ensures answer { result ≡ (if nat_le (seated self.old).clock time && nat_le time 1000000000 then Ok tt else Err Clock) }
+        ensures seat { seated self.new ≡ (if nat_le (seated self.old).clock time && nat_le time 1000000000 then at_clock time (seated self.old) else seated self.old) }
         ensures pool { self.new.pool ≡ self.old.pool }
     {
         self.may_tick(time)?;
