@@ -12,32 +12,17 @@ use Rattle.hall.specs.Answers.{block_if}
 
 -- the places are a payload
 pub payload_found : (xs ys : List ℕ) → Some ys ≡ list_if_ok xs → (ys ≡ xs) × (payload_ok xs ≡ true)
-payload_found xs ys e = found (payload_ok xs) e
-  where
-    found : (b : Bool) → Some ys ≡ cond b (Some xs) None → (ys ≡ xs) × (b ≡ true)
-    found true h = (cc, refl)
-    found false h = let z : ◌≡◌ {A = ℕ} 0 1 = cc in absurd (omega arith)
-
-pub not_ok : (xs : List ℕ) → None ≡ list_if_ok xs → payload_ok xs ≡ false
-not_ok xs e = missed (payload_ok xs) e
-  where
-    missed : (b : Bool) → None ≡ cond {A = Option (List ℕ)} b (Some xs) None → b ≡ false
-    missed true h = let z : ◌≡◌ {A = ℕ} 0 1 = cc in absurd (omega arith)
-    missed false h = refl
+payload_found xs ys e = (grind arith, grind arith)
 
 module _ (p : Model) (w : World) (s b : ℕ) (xs : List ℕ) where
   pub known_and_ok : (rest : List Check) → known p w b ≡ true → payload_ok xs ≡ true
       → first_failed (must (known p w b && payload_ok xs) 10 3 s b ∷ rest) ≡ first_failed rest
-  known_and_ok rest k o = (λ i. first_failed (must (k i && o i) 10 3 s b ∷ rest))
+  known_and_ok rest k o = grind arith
 
   pub payload_missed : (rest : List Check) → known p w b ≡ true → None ≡ list_if_ok xs
       → fault_verdict s b OutOfRange ≡ first_failed (must (known p w b && payload_ok xs) 10 3 s b ∷ rest)
-  payload_missed rest k n = let o = not_ok xs n in sym (λ i. first_failed (must (k i && o i) 10 3 s b ∷ rest))
+  payload_missed rest k n = grind arith
 
   pub block_unknown : (f : HallFault) (rest : List Check) → Err f ≡ block_if p w b
       → fault_verdict s b f ≡ first_failed (must (known p w b && payload_ok xs) 10 3 s b ∷ rest)
-  block_unknown f rest e = stops (known p w b) e
-    where
-      stops : (k : Bool) → Err f ≡ cond {A = Result ℕ HallFault} k (Ok b) (Err OutOfRange) → fault_verdict s b f ≡ first_failed (must (k && payload_ok xs) 10 3 s b ∷ rest)
-      stops true h = let z : ◌≡◌ {A = ℕ} 0 1 = cc in absurd (omega arith)
-      stops false h = let g : f ≡ OutOfRange = cc in ap (fault_verdict s b) g
+  block_unknown f rest e = grind arith
