@@ -1,6 +1,7 @@
 -- The seat of the rules that a seat of the code stands for.
-use Rattle.std.specs.Prelude.{Bool, false, take, slice_index_or}
+use Rattle.std.specs.Prelude.{Bool, false, length, slice_index_or}
 use Rattle.basics.specs.Bit.{bit}
+use Rattle.basics.specs.Elements.{elements}
 use Rattle.model.specs.World.{Phase as Stage}
 use Rattle.model.specs.World.{Seat as ModelSeat}
 use Rattle.model.specs.World.Phase.{waiting, in_round, done}
@@ -27,8 +28,8 @@ progressed x = record {
   proposed = x.proposed;
   noted = λ b. slice_index_or x.noted b false;
   disqualified = bit x.disqualified;
-  k_max = x.k_max;
-  catalogue = take x.k_max x.catalogue;
+  k_max = length (elements x.catalogue);
+  catalogue = elements x.catalogue;
 }
 
 -- the seat of the rules

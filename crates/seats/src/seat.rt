@@ -1,6 +1,5 @@
 //! The state of a seat.
-ghost use Rattle.std.specs.Prelude.{◌≤◌};
-
+use basics::inline_list::InlineList;
 use basics::numbers::Round;
 use messages::set::MessageSet;
 
@@ -24,13 +23,13 @@ pub enum Phase {
     Done,
 }
 
-/// How a seat stands: its phase, its round, the highest committed round, and so many committed blocks, lowest round first.
-#[derive(Clone, Copy)]
-pub struct Standing {
+/// How a seat stands: its phase, its round, and the committed blocks, lowest round first, of which there are as many as the highest
+/// committed round says.
+#[derive(Clone, Copy, Debug, PartialEq, Eq)]
+pub struct Standing<'a> {
     pub phase: Phase,
-    pub round: u8,
-    pub k_max: u8,
-    pub catalogue: [u16; 8],
+    pub round: Round,
+    pub catalogue: &'a [u16],
 }
 
 /// A seat: how far it has come, and its pool. Calls move the first, and what arrives or is posted comes into the second.
@@ -53,8 +52,6 @@ struct Progress {
     noted: [bool; 313],
     // a mask of ranks
     disqualified: u16,
-    // the highest committed round: so many blocks are in the catalogue, lowest round first
-    k_max: u8,
-    catalogue: [u16; 8],
-    ghost committed: { k_max ≤ 8 },
+    // the numbers of the committed blocks, lowest round first: there is one of each round up to the highest committed one
+    catalogue: InlineList<u16, 8>,
 }

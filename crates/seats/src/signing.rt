@@ -7,32 +7,11 @@ use basics::numbers::SeatIndex;
 use messages::message::{Message, Share};
 use seals::book::{SealBook, SealView};
 
-// the kind of the share's seal
-fn kind(share: Share) -> u8
-    ensures { result ≡ share_kind share }
-{
-    match share {
-        Share::Notarization(_) => 2,
-        Share::Finalization(_) => 4,
-        Share::Beacon(_) => 6,
-    }
-}
-
-// what the share's seal is on
-fn subject(share: Share) -> u16
-    ensures { result ≡ share_subject share }
-{
-    match share {
-        Share::Notarization(block) | Share::Finalization(block) => block.value(),
-        Share::Beacon(round) => u16::from(round.value()),
-    }
-}
-
 /// Seals the share for a seat, and gives the message that shows it. The root is no block to be signed: a share of it is not sealed.
 pub fn sign<B: SealBook>(book: &mut B, share: Share, who: SeatIndex) -> Message
     ensures message { result ≡ Message.Signed share who }
     ensures seals { B.SealView.held book.new ≡ added (share_kind share) who.value (share_subject share) (B.SealView.held book.old) }
 {
-    let _ = book.seal(kind(share), who.value(), subject(share));
+    let _ = book.seal(share.kind(), who.value(), share.subject());
     Message::Signed(share, who)
 }

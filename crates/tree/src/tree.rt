@@ -12,7 +12,7 @@ pub struct Block {
 }
 
 /// The blocks by number, those that were made. The root, 0, is never made: it is always there.
-#[derive(Clone, Copy)]
+#[derive(Clone, Copy, Debug, PartialEq, Eq)]
 pub struct Tree {
     blocks: [Option<Block>; 313],
 }

@@ -1,9 +1,9 @@
 //! Committing a block, and with it its chain.
-ghost use Rattle.std.specs.Prelude.{◌≡◌, ℕ, ◌<◌, ◌≤◌, Bool, false, List, [], ◌++◌, take, drop, Ok, Err};
+ghost use Rattle.std.specs.Prelude.{◌≡◌, ℕ, ◌<◌, ◌≤◌, Bool, false, List, [], ◌++◌, length, drop, Ok, Err};
 ghost use Rattle.model.specs.Setup.{round_of};
 ghost use Rattle.model.specs.World.{chain_by};
 ghost use Rattle.model.specs.Checks.Call.{commit as Commit};
-ghost use Rattle.model.specs.Effects.{seat_after};
+ghost use Rattle.basics.specs.Elements.{elements};
 ghost use Rattle.plans.specs.Planned.{model};
 ghost use Rattle.tree.specs.Blocks.{parents};
 ghost use Rattle.seats.specs.Faults.{told};
@@ -16,18 +16,20 @@ use super::Seat;
 use crate::context::Context;
 use crate::fault::SeatFault;
 use crate::outgoing::Outgoing;
+use basics::inline_list::InlineList;
 use basics::numbers::BlockNumber;
 use messages::message::{Message, Share};
 use tree::tree::Tree;
 
-// writes the chain of the block, of round `to`, into the table, from round `from` + 1 on: the parent first, then the block
-fn list_chain(tree: &Tree, table: &mut [u16; 8], from: u8, to: u8, block: BlockNumber)
-    requires { (from ≤ to) × (to ≤ 8) }
-    ensures { take to table.new ≡ take from table.old ++ drop from (chain_by (parents tree.now) to block.value) }
+// adds to the list the blocks of the chain of the block, of round `to`, that are past its end: the parent's first, then the block
+fn list_chain(tree: &Tree, list: &mut InlineList<u16, 8>, to: u8, block: BlockNumber)
+    requires { (length (elements list.old) ≤ to) × (to ≤ 8) }
+    ensures listed { elements list.new ≡ elements list.old ++ drop (length (elements list.old)) (chain_by (parents tree.now) to block.value) }
+    ensures full { length (elements list.new) ≡ to }
 {
-    if to > from {
-        list_chain(tree, table, from, to - 1, tree.parent(block));
-        table[to as usize - 1] = block.value();
+    if usize::from(to) > list.len() {
+        list_chain(tree, list, to - 1, tree.parent(block));
+        list.push(block.value());
     }
 }
 
@@ -39,10 +41,7 @@ impl Seat {
         ensures beyond { 8 < round_of (model at.entry.plan.now) block.value → result ≡ Err WrongRound }
     {
         let round = at.plan.round_of(block);
-        if round > 8 {
-            return Err(SeatFault::WrongRound);
-        }
-        if self.progress.k_max >= round {
+        if round > 8 || self.k_max() >= round {
             return Err(SeatFault::WrongRound);
         }
         if !at.tree.valid(at.plan, &self.pool, block) {
@@ -58,23 +57,6 @@ impl Seat {
         Ok(())
     }
 
-    // the catalogue goes on to the block, of a round from here to the eighth
-    fn extend_catalogue(&mut self, at: Context<'_>, block: BlockNumber)
-        requires { (self.old.progress.k_max < round_of (model at.plan.now) block.value) × (round_of (model at.plan.now) block.value ≤ 8) }
-        ensures seat { seated self.new ≡ seat_after (model at.entry.plan.now) (bare_desk at.entry.tree.now self.old) (Commit 0 block.value) }
-        ensures pool { self.new.pool ≡ self.old.pool }
-    {
-        let round = at.plan.round_of(block);
-        list_chain(
-            at.tree,
-            &mut self.progress.catalogue,
-            self.progress.k_max,
-            round,
-            block,
-        );
-        self.progress.k_max = round;
-    }
-
     /// Commits a block: its chain's blocks of the rounds above the highest committed one go onto the catalogue, and its finalization is
     /// broadcast.
     pub fn commit(&mut self, at: Context<'_>, block: BlockNumber) -> Result<Outgoing, SeatFault>
@@ -83,7 +65,8 @@ impl Seat {
         ensures pool { self.new.pool ≡ self.old.pool }
     {
         self.may_commit(at, block)?;
-        self.extend_catalogue(at, block);
+        let round = at.plan.round_of(block);
+        list_chain(at.tree, &mut self.progress.catalogue, round, block);
         Ok(Outgoing {
             block: None,
             whole: Some(Message::Finalization(block)),

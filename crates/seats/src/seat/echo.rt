@@ -70,10 +70,9 @@ impl Seat {
             return Err(SeatFault::WrongRound);
         }
         let rank = at.plan.rank_of(block);
-        if self.progress.noted[block.value() as usize] {
-            return Err(SeatFault::EchoedBefore);
-        }
-        if self.progress.disqualified.has(rank.value()) {
+        if self.progress.noted[block.value() as usize]
+            || self.progress.disqualified.has(rank.value())
+        {
             return Err(SeatFault::EchoedBefore);
         }
         if !at.tree.valid(at.plan, &self.pool, block) {

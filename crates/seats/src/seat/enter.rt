@@ -24,11 +24,14 @@ impl Progress {
     fn begin_round(&mut self)
         ensures { progressed self.new ≡ entered (progressed self.old) }
     {
-        self.phase = Phase::InRound;
-        self.start = self.clock;
-        self.proposed = false;
-        self.noted = [false; 313];
-        self.disqualified = 0;
+        *self = Progress {
+            phase: Phase::InRound,
+            start: self.clock,
+            proposed: false,
+            noted: [false; 313],
+            disqualified: 0,
+            ..*self
+        };
     }
 }
 

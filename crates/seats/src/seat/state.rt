@@ -12,6 +12,7 @@ ghost use Rattle.seats.specs.declared.fault.SeatFault.TheVariants.{Clock};
 
 use super::{Phase, Progress, Seat, Standing};
 use crate::fault::SeatFault;
+use basics::inline_list::InlineList;
 use basics::numbers::Round;
 use messages::message::Message;
 use messages::set::MessageSet;
@@ -55,8 +56,7 @@ impl Seat {
             proposed: false,
             noted: [false; 313],
             disqualified: 0,
-            k_max: 0,
-            catalogue: [0; 8],
+            catalogue: InlineList::empty(),
         };
         Seat {
             progress,
@@ -83,32 +83,30 @@ impl Seat {
         ensures is { result ≡ (seated self.now).k_max }
         ensures few { result ≤ 8 }
     {
-        self.progress.k_max
+        self.progress.catalogue.len() as u8
     }
 
     /// The numbers of the committed blocks, lowest round first.
     pub fn catalogue(&self) -> &[u16]
         ensures { result.now ≡ (seated self.now).catalogue }
     {
-        &self.progress.catalogue[0..self.progress.k_max as usize]
+        self.progress.catalogue.as_slice()
     }
 
     /// How the seat stands.
-    pub fn standing(&self) -> Standing
+    pub fn standing(&self) -> Standing<'_>
         ensures { Stands result (seated self.now) }
     {
-        let catalogue = self.progress.catalogue;
         Standing {
             phase: self.progress.phase,
-            round: self.progress.round.value(),
-            k_max: self.progress.k_max,
-            catalogue,
+            round: self.progress.round,
+            catalogue: self.progress.catalogue.as_slice(),
         }
     }
 
     /// What setting the clock to this time would answer: a clock never goes back, nor past 1,000,000,000.
     pub fn may_tick(&self, time: u32) -> Result<(), SeatFault>
-        ensures { result ≡ (if nat_le self.now.progress.clock time && nat_le time 1000000000 then Ok tt else Err Clock) }
+        ensures { result ≡ (if nat_le (seated self.now).clock time && nat_le time 1000000000 then Ok tt else Err Clock) }
     {
         if time < self.progress.clock || time > 1000000000 {
             return Err(SeatFault::Clock);
@@ -118,8 +116,8 @@ impl Seat {
 
     /// Sets the clock.
     pub fn tick(&mut self, time: u32) -> Result<(), SeatFault>
-        ensures answer { result ≡ (if nat_le self.old.progress.clock time && nat_le time 1000000000 then Ok tt else Err Clock) }
-        ensures seat { seated self.new ≡ (if nat_le self.old.progress.clock time && nat_le time 1000000000 then at_clock time (seated self.old) else seated self.old) }
+        ensures answer { result ≡ (if nat_le (seated self.old).clock time && nat_le time 1000000000 then Ok tt else Err Clock) }
+        ensures seat { seated self.new ≡ (if nat_le (seated self.old).clock time && nat_le time 1000000000 then at_clock time (seated self.old) else seated self.old) }
         ensures pool { self.new.pool ≡ self.old.pool }
     {
         self.may_tick(time)?;
