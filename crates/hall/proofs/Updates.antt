@@ -1,6 +1,6 @@
 -- One seat of a hall written: the state as a function of the seat.
-use Rattle.std.proofs.Common.{◌≡◌, ℕ, ◌<◌, Bool, true, false, cond, ◌&&◌, ◌||◌, eqb, List, [], length, get_or, set, sym, refl, ap, ◌∙◌, ⊎_elim, arith, get_or-set_other, get_or-set_same}
-use Rattle.std.proofs.lemmas.Bool.{cases_eq, eq-eqb, ne_eqb, cond-true, cond-false}
+use Rattle.std.proofs.Common.{◌≡◌, ℕ, ◌<◌, Bool, true, false, cond, ◌&&◌, ◌||◌, eqb, List, [], length, get_or, set, sym, refl, ap, ◌∙◌, arith, get_or-set_other, get_or-set_same}
+use Rattle.std.proofs.lemmas.Bool.Decides.{nat_tests}
 use Rattle.basics.specs.Put.{put}
 use Rattle.model.specs.World.{World, has}
 use Rattle.model.specs.World.{Seat as ModelSeat}
@@ -15,21 +15,13 @@ use Rattle.hall.specs.Steps.{posting, seating}
 -- a field of the elements, where one element is written
 pub field_put : {A F : Type 0} (f : A → F) (l : List A) (s : ℕ) (x d : A) → s < length l → ◌≡◌ {A = ℕ → F} (λ k. f (get_or (set l s x) k d)) (put s (f x) (λ k. f (get_or l k d)))
 field_put f l s x d h =
-    let at : (k : ℕ) → f (get_or (set l s x) k d) ≡ put s (f x) (λ k'. f (get_or l k' d)) k =
-    (λ k. ⊎_elim
-    (λ (e : s ≡ k). ap (λ k'. f (get_or (set l s x) k' d)) (sym e) ∙ ap f (get_or-set_same l s x d h) ∙ sym (cond-true (eqb s k) (f x) (f (get_or l k d)) (eq-eqb s k e)))
-    (λ (ne : s ≡ k → ⊥). ap f (get_or-set_other l s k x d (λ e. ne (sym e))) ∙ sym (cond-false (eqb s k) (f x) (f (get_or l k d)) (ne_eqb s k ne)))
-    (cases_eq s k)) in
+    let at : (k : ℕ) → f (get_or (set l s x) k d) ≡ put s (f x) (λ k'. f (get_or l k' d)) k = (λ k. grind (arith, nat_tests, get_or-set_same, get_or-set_other)) in
     λ i k. at k i
 
 -- a function changed to what it is
 pub put_same : {F : Type 0} (s : ℕ) (f : ℕ → F) → put s (f s) f ≡ f
 put_same s f =
-    let at : (k : ℕ) → put s (f s) f k ≡ f k =
-    (λ k. ⊎_elim
-    (λ (e : s ≡ k). cond-true (eqb s k) (f s) (f k) (eq-eqb s k e) ∙ ap f e)
-    (λ (ne : s ≡ k → ⊥). cond-false (eqb s k) (f s) (f k) (ne_eqb s k ne))
-    (cases_eq s k)) in
+    let at : (k : ℕ) → put s (f s) f k ≡ f k = (λ k. grind (arith, nat_tests)) in
     λ i k. at k i
 
 pub cond_same : {F : Type 0} (b : Bool) (x : F) → x ≡ cond b x x
@@ -116,13 +108,7 @@ module _ (made : ℕ → Bool) (parent : ℕ → ℕ) (places : ℕ → List ℕ
       → ◌≡◌ {A = ℕ → Said → Bool} (λ s'. pooled (get_or (set seats s x) s' no_seat)) (λ s' m. (eqb s s' && has ms m) || pooled (get_or seats s' no_seat) m)
   pool_with s x ms low more =
       let f : ℕ → Said → Bool = λ k. pooled (get_or seats k no_seat) in
-      let at : (s' : ℕ) (m : Said) → put s (with_all ms (f s)) f s' m ≡ ((eqb s s' && has ms m) || f s' m) =
-      (λ s' m. ⊎_elim
-      (λ (e : s ≡ s'). ap (λ (g : Said → Bool). g m) (cond-true (eqb s s') (with_all ms (f s)) (f s') (eq-eqb s s' e)) ∙ ap (λ k. has ms m || f k m) e
-      ∙ sym (ap (λ b. (b && has ms m) || f s' m) (eq-eqb s s' e)))
-      (λ (ne : s ≡ s' → ⊥). ap (λ (g : Said → Bool). g m) (cond-false (eqb s s') (with_all ms (f s)) (f s') (ne_eqb s s' ne))
-      ∙ sym (ap (λ b. (b && has ms m) || f s' m) (ne_eqb s s' ne)))
-      (cases_eq s s')) in
+      let at : (s' : ℕ) (m : Said) → put s (with_all ms (f s)) f s' m ≡ ((eqb s s' && has ms m) || f s' m) = (λ s' m. grind (arith, nat_tests)) in
       field_put pooled seats s x no_seat low ∙ ap (λ (g : Said → Bool). put s g f) more ∙ (λ i s' m. at s' m i)
 
   -- the seat s is as it was

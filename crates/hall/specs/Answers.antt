@@ -1,33 +1,26 @@
 -- What a call on a hall answers and leaves, in the terms of the rules.
-use Rattle.std.specs.Prelude.{◌≡◌, ℕ, Bool, cond, ◌&&◌, ◌||◌, List, [], ◌∷◌, ◌++◌, Ok, Err, Result, ◌==◌, nat_le, nat_lt}
-use Rattle.basics.specs.declared.numbers.BlockNumber.{BlockNumber}
-use Rattle.basics.specs.declared.ranged.Number.{Number}
+use Rattle.std.specs.Prelude.{◌≡◌, ℕ, Bool, cond, not, ◌&&◌, ◌||◌, List, [], ◌∷◌, ◌++◌, Ok, Err, Result, ◌==◌, nat_le, nat_lt}
 use Rattle.model.specs.Setup.{Plan as Model}
-use Rattle.model.specs.Setup.{Lawful}
+use Rattle.model.specs.Setup.{Lawful, honest}
 use Rattle.model.specs.World.{World, message}
 use Rattle.model.specs.World.{Message as Said}
 use Rattle.model.specs.Checks.{Call, Verdict, verdict, known, in_range}
 use Rattle.model.specs.Effects.{after, opening}
 use Rattle.model.specs.Journal.{Line, Kept}
 use Rattle.model.specs.Promises.{Promises}
-use Rattle.messages.specs.declared.message.Message.{Message}
-use Rattle.messages.specs.Meaning.{means}
 use Rattle.plans.specs.Planned.{model}
 use Rattle.plans.specs.declared.plan.Plan.{Plan}
 use Rattle.hall.specs.Worlds.{world}
 use Rattle.hall.specs.declared.hall.Hall.{Hall}
+use Rattle.hall.specs.declared.hall.admit.Sort.{Sort}
+use Rattle.hall.specs.declared.hall.admit.Sort.TheVariants.{Honest, Corrupt}
 use Rattle.hall.specs.declared.fault.HallFault.{HallFault}
 use Rattle.hall.specs.declared.fault.HallFault.TheVariants.{NoSeat, OtherSort, OutOfRange}
 
--- the number inside an answer: of a seat or a round
-abbrev pub number_answer : {K : _} {R : _} → Result (Number K R) HallFault → Result ℕ HallFault
-number_answer (Ok x) = Ok x.value
-number_answer (Err f) = Err f
-
--- the number of a block inside an answer
-abbrev pub block_answer : Result BlockNumber HallFault → Result ℕ HallFault
-block_answer (Ok b) = Ok b.value
-block_answer (Err f) = Err f
+-- whether a seat is of this sort
+abbrev pub is_of : Sort → Model → ℕ → Bool
+is_of Honest p s = honest p s
+is_of Corrupt p s = not (honest p s)
 
 -- the seat that a call names, if there is such a seat and it is of the right sort
 abbrev pub seat_if : Model → Bool → ℕ → Result ℕ HallFault
@@ -41,14 +34,13 @@ block_if p w b = cond (known p w b) (Ok b) (Err OutOfRange)
 abbrev pub round_if : Model → ℕ → Result ℕ HallFault
 round_if p k = cond (nat_le 1 k && nat_le k p.rounds) (Ok k) (Err OutOfRange)
 
--- the message inside an answer
-abbrev pub message_answer : Result Message HallFault → Result Said HallFault
-message_answer (Ok m) = Ok (means m)
-message_answer (Err f) = Err f
-
 -- the message that a call names, if there can be such a message
 abbrev pub message_if : Model → World → ℕ → ℕ → ℕ → Result Said HallFault
 message_if p w kind signer x = cond (in_range p w kind signer x) (Ok (message kind signer x)) (Err OutOfRange)
+
+-- a share of this kind and subject, of one of the seats
+abbrev pub signed_if : Model → ℕ → ℕ → ℕ → Result Said HallFault
+signed_if p kind signer x = cond (nat_lt signer p.n) (Ok (message kind signer x)) (Err OutOfRange)
 
 -- a beacon share of one of the seats for one of the rounds
 abbrev pub beacon_if : Model → ℕ → ℕ → Result Said HallFault

@@ -1,9 +1,9 @@
 //! Sets of messages.
-ghost use Rattle.std.specs.Prelude.{◌≡◌, ℕ, ◌<◌};
+ghost use Rattle.std.specs.Prelude.{◌≡◌, ℕ, ◌<◌, true};
 ghost use Rattle.basics.specs.Count.{tally};
 ghost use Rattle.model.specs.World.{message};
 ghost use Rattle.messages.specs.Meaning.{means, share_kind, share_subject};
-ghost use Rattle.messages.specs.Rows.{row};
+ghost use Rattle.messages.specs.Rows.{row, subject_fits};
 ghost use Rattle.messages.specs.Stored.{stored, joined, nothing};
 
 use crate::message::{Message, Share};
@@ -15,41 +15,23 @@ pub struct MessageSet {
     rows: [u16; 1574],
 }
 
-// the row of a share
-fn share_row(share: Share) -> usize
-    ensures is { result ≡ row (share_kind share) (share_subject share) }
+// the row of the messages of this kind on this subject
+fn row_of(kind: u8, subject: u16) -> usize
+    requires { subject_fits kind subject ≡ true }
+    ensures is { result ≡ row kind subject }
     ensures low { result < 1574 }
 {
-    match share {
-        Share::Notarization(b) => 313 + b.value() as usize,
-        Share::Finalization(b) => 939 + b.value() as usize,
-        Share::Beacon(k) => 1565 + k.value() as usize,
-    }
+    (usize::from(kind) - 1) * 313 + usize::from(subject)
 }
 
-// the row of a message
-fn message_row(m: Message) -> usize
-    ensures is { result ≡ row (means m).kind (means m).subject }
-    ensures low { result < 1574 }
-{
-    match m {
-        Message::Block(b) => b.value() as usize,
-        Message::Signed(share, _) => share_row(share),
-        Message::Notarization(b) => 626 + b.value() as usize,
-        Message::Finalization(b) => 1252 + b.value() as usize,
-    }
-}
-
-// its bit in that row
-fn message_bit(m: Message) -> u8
+// the bit of a message in its row: its signer's, or the first where it has none
+fn bit_of(m: Message) -> u8
     ensures is { result ≡ (means m).signer }
     ensures low { result < 13 }
 {
     match m {
-        Message::Block(_) => 0,
         Message::Signed(_, signer) => signer.value(),
-        Message::Notarization(_) => 0,
-        Message::Finalization(_) => 0,
+        _ => 0,
     }
 }
 
@@ -63,25 +45,27 @@ impl MessageSet {
     }
 
     /// Whether the message is in the set.
+    #[tactic(auto, using(crate::proofs::RowLaws::message_fits), unfolding(crate::specs::Stored::in_rows))]
     pub fn contains(&self, m: Message) -> bool
         ensures { result ≡ stored self.now (means m) }
     {
-        self.rows[message_row(m)].has(message_bit(m))
+        self.rows[row_of(m.kind(), m.subject())].has(bit_of(m))
     }
 
     /// Adds the message.
     pub fn insert(&mut self, m: Message)
         ensures { stored self.new ≡ joined (means m) (stored self.old) }
     {
-        let at = message_row(m);
+        let at = row_of(m.kind(), m.subject());
         let old = self.rows[at];
-        self.rows[at] = old.with(message_bit(m));
+        self.rows[at] = old.with(bit_of(m));
     }
 
     /// How many of the seats below n have signed the share, as far as the set knows.
+    #[tactic(auto, using(crate::proofs::RowLaws::row_count, crate::proofs::RowLaws::share_fits))]
     pub fn count(&self, share: Share, n: u8) -> u8
         ensures { result ≡ tally (λ s. stored self.now (message (share_kind share) s (share_subject share))) n }
     {
-        mask::size_below(self.rows[share_row(share)], n)
+        mask::size_below(self.rows[row_of(share.kind(), share.subject())], n)
     }
 }

@@ -23,7 +23,7 @@ four_lawful = record {
 }
 
 module _ (p : Plan) where
-  run_goes_on : (cs : List Call) (js : List Line) (w : World) → Kept p js w →
+  pub run_goes_on : (cs : List Call) (js : List Line) (w : World) → Kept p js w →
       Kept p (js ++ lines_by (verdict p) (effect p) w cs) (run_by (verdict p) (effect p) w cs)
   run_goes_on [] js w k = subst (λ ls. Kept p ls w) (sym (append-nil js)) k
   run_goes_on (c ∷ cs) js w k =

@@ -14,6 +14,7 @@ use Rattle.model.specs.Effects.{after}
 use Rattle.model.specs.Journal.{Line, Kept}
 use Rattle.model.specs.Journal.Kept.{called}
 use Rattle.model.proofs.Law.{law_stands}
+use Rattle.model.proofs.Runs.{run_goes_on}
 use Rattle.calls.specs.Asked.{asked}
 use Rattle.calls.specs.declared.Call.{Call}
 use Rattle.plans.specs.Planned.{model}
@@ -22,13 +23,6 @@ use Rattle.hall.specs.Answers.{Called}
 use Rattle.hall.specs.Worlds.{world}
 use Rattle.hall.specs.declared.hall.Hall.{Hall}
 use Rattle.schedules.specs.Ran.{all_asked, state_after, lines_of, Ran}
-
--- a complete journal goes on by the lines of the calls
-lines_go_on : (p : Model) (cs : List Asked) (js : List Line) (w : World) → Kept p js w → Kept p (js ++ lines_of p w cs) (state_after p w cs)
-lines_go_on p [] js w k = subst (λ (ls : List Line). Kept p ls w) (sym (append-nil js)) k
-lines_go_on p (c ∷ cs) js w k =
-    subst (λ (ls : List Line). Kept p ls (state_after p (after p w c) cs)) (append_assoc js (record { call = c; answer = verdict p w c } ∷ []) (lines_of p (after p w c) cs))
-    (lines_go_on p cs (js ++ (record { call = c; answer = verdict p w c } ∷ [])) (after p w c) (called k c))
 
 module _ {B : Type 0} (held : B → ℕ → ℕ → ℕ → Bool) (h₀ h h' : Hall B) where
   -- after one call, what the calls that are left come to stays
@@ -58,6 +52,6 @@ module _ {B : Type 0} (held : B → ℕ → ℕ → ℕ → Bool) (h₀ h h' : H
         left = left;
         journal = λ js k.
             subst (λ (m : Model). Kept m (js ++ lines_of p (world held h₀) (all_asked xs)) (world held h)) (sym (ap model stays))
-            (subst (λ (w : World). Kept p (js ++ lines_of p (world held h₀) (all_asked xs)) w) (sym left) (lines_go_on p (all_asked xs) js (world held h₀) k));
+            (subst (λ (w : World). Kept p (js ++ lines_of p (world held h₀) (all_asked xs)) w) (sym left) (run_goes_on p (all_asked xs) js (world held h₀) k));
         promises = law_stands (model h.plan) (plan_is_lawful h.plan);
       }

@@ -1,6 +1,7 @@
 -- The lemmas about seats.
 pub mod Finds
-pub mod Judged
 pub mod Posting
 pub mod RuleLaws
 pub mod Chains
+pub mod Iterators
+pub mod Beginnings

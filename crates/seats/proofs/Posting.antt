@@ -1,11 +1,13 @@
 -- Sets with the messages of a list; a seal more.
-use Rattle.std.proofs.Common.{◌≡◌, ℕ, ◌<◌, ◌≤◌, Bool, true, false, ◌&&◌, ◌||◌, eqb, List, [], ◌∷◌, ◌++◌, sym, refl, ap, ◌∙◌, arith}
+use Rattle.std.proofs.Common.{◌≡◌, ℕ, ◌<◌, ◌≤◌, Bool, true, false, ◌&&◌, ◌||◌, eqb, Option, Some, List, [], ◌∷◌, ◌++◌, sym, refl, ap, ◌∙◌, arith}
 use Rattle.std.proofs.lemmas.Bool.Decides.{nat_tests}
 use Rattle.model.specs.World.{message, has, same}
 use Rattle.model.specs.World.{Message as Said}
+use Rattle.messages.specs.declared.message.Message.{Message}
+use Rattle.messages.specs.Meaning.{means}
 use Rattle.messages.specs.Stored.{joined}
 use Rattle.seals.specs.Seals.{allowed, added}
-use Rattle.seats.specs.Sent.{with_all}
+use Rattle.seats.specs.Sent.{maybe, with_all}
 use Rattle.seats.specs.Desk.{sealed_with}
 
 or_none : (y f : Bool) → (y || f) ≡ ((y || false) || f)
@@ -14,6 +16,10 @@ or_none y f = grind arith
 -- one message
 pub joined_one : (m : Said) (f : Said → Bool) → joined m f ≡ with_all (m ∷ []) f
 joined_one m f = λ i x. or_none (same m x) (f x) i
+
+-- a message, if there is one
+pub posted_one : (o : Option Message) (m : Message) (f : Said → Bool) → o ≡ Some m → joined (means m) f ≡ with_all (maybe o) f
+posted_one o m f e = joined_one (means m) f ∙ ap (λ p. with_all (maybe p) f) (sym e)
 
 or_assoc : (a b d : Bool) → ((a || b) || d) ≡ (a || (b || d))
 or_assoc a b d = grind arith

@@ -1,5 +1,5 @@
 -- How a seat stands, as the rules speak of it.
-use Rattle.std.specs.Prelude.{◌≡◌, ◌≤◌, take}
+use Rattle.std.specs.Prelude.{◌≡◌, ◌≤◌, length}
 use Rattle.model.specs.World.{Seat}
 use Rattle.seats.specs.declared.seat.Standing.{Standing}
 use Rattle.seats.specs.Seated.{stage}
@@ -7,7 +7,7 @@ use Rattle.seats.specs.Seated.{stage}
 -- what the code says of a seat is what the rules say of it
 pub record Stands (x : Standing) (st : Seat) : Type 0 where
   pub phase_is : stage x.phase ≡ st.phase
-  pub round_is : x.round ≡ st.round
-  pub k_max_is : x.k_max ≡ st.k_max
-  pub few : x.k_max ≤ 8
-  pub blocks_are : take x.k_max x.catalogue ≡ st.catalogue
+  pub round_is : x.round.value ≡ st.round
+  pub k_max_is : length x.catalogue.now ≡ st.k_max
+  pub few : length x.catalogue.now ≤ 8
+  pub blocks_are : x.catalogue.now ≡ st.catalogue

@@ -5,7 +5,7 @@ ghost use Rattle.seats.specs.Faults.{seat_fault_number, seat_fault_subject};
 use basics::numbers::BlockNumber;
 
 /// The refusals of a seat.
-#[derive(Clone, Copy)]
+#[derive(Clone, Copy, Debug, PartialEq, Eq)]
 pub enum SeatFault {
     /// the clock would go back, or past its last time
     Clock,

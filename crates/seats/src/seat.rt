@@ -1,6 +1,5 @@
 //! The state of a seat.
-ghost use Rattle.std.specs.Prelude.{◌≤◌};
-
+use basics::inline_list::InlineList;
 use basics::numbers::Round;
 use messages::set::MessageSet;
 
@@ -14,7 +13,7 @@ pub mod search;
 pub mod state;
 
 /// Where a seat is.
-#[derive(Clone, Copy)]
+#[derive(Clone, Copy, Debug, PartialEq, Eq)]
 pub enum Phase {
     /// it waits for its round
     Waiting,
@@ -24,19 +23,26 @@ pub enum Phase {
     Done,
 }
 
-/// How a seat stands: its phase, its round, the highest committed round, and so many committed blocks, lowest round first.
-#[derive(Clone, Copy)]
-pub struct Standing {
+/// How a seat stands: its phase, its round, and the committed blocks, lowest round first, of which there are as many as the highest
+/// committed round says.
+#[derive(Clone, Copy, Debug, PartialEq, Eq)]
+pub struct Standing<'a> {
     pub phase: Phase,
-    pub round: u8,
-    pub k_max: u8,
-    pub catalogue: [u16; 8],
+    pub round: Round,
+    pub catalogue: &'a [u16],
 }
 
-/// A seat: its phase and round, its clock and the start of its round, whether it proposed, the blocks it noted and the ranks it
-/// disqualified in its round, how far it committed, its catalogue and its pool.
+/// A seat: how far it has come, and its pool. Calls move the first, and what arrives or is posted comes into the second.
 #[derive(Clone, Copy)]
 pub struct Seat {
+    progress: Progress,
+    pool: MessageSet,
+}
+
+// How far a seat has come: its phase and round, its clock and the start of its round, whether it proposed, the blocks it noted and the
+// ranks it disqualified in its round, and its catalogue.
+#[derive(Clone, Copy)]
+struct Progress {
     phase: Phase,
     round: Round,
     clock: u32,
@@ -46,9 +52,6 @@ pub struct Seat {
     noted: [bool; 313],
     // a mask of ranks
     disqualified: u16,
-    // the highest committed round: so many blocks are in the catalogue, lowest round first
-    k_max: u8,
-    catalogue: [u16; 8],
-    pool: MessageSet,
-    ghost committed: { k_max ≤ 8 },
+    // the numbers of the committed blocks, lowest round first: there is one of each round up to the highest committed one
+    catalogue: InlineList<u16, 8>,
 }

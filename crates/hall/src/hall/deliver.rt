@@ -1,57 +1,51 @@
 //! Deliveries: a message that exists comes into an honest seat's pool.
 ghost use Rattle.std.specs.Prelude.{◌≡◌, ℕ, ◌≤◌};
+ghost use Rattle.std.specs.Result.{result_map_both};
 ghost use Rattle.basics.specs.Count.{tally};
 ghost use Rattle.model.specs.World.{exists};
 ghost use Rattle.model.specs.Checks.Call.{deliver as Deliver};
-ghost use Rattle.messages.specs.Meaning.{means};
-ghost use Rattle.messages.specs.declared.message.Message.TheVariants.{Signed};
+ghost use Rattle.messages.specs.Meaning.{means, share_kind, share_subject};
 ghost use Rattle.plans.specs.Planned.{model};
 ghost use Rattle.hall.specs.Faults.{answer};
 ghost use Rattle.hall.specs.Worlds.{world};
-ghost use Rattle.hall.specs.Answers.{message_answer, message_if, beacon_if, share_if, Called};
+ghost use Rattle.hall.specs.Answers.{message_if, signed_if, beacon_if, share_if, Called};
 
 use super::Hall;
+use super::admit::Sort;
 use crate::fault::HallFault;
-use basics::numbers::{BlockNumber, Round, SeatIndex};
+use basics::numbers::{BlockNumber, SeatIndex};
 use messages::message::{Message, Share};
 use seals::book::{SealBook, SealView};
 
 impl<B: SealBook> Hall<B> {
-    // a beacon share of one of the seats for one of the rounds
-    fn beacon_share(&self, signer: u8, subject: u16) -> Result<Message, HallFault>
-        ensures { message_answer result ≡ beacon_if (model self.now.plan) signer subject }
+    // the share, signed by one of the seats
+    fn signed(&self, share: Share, signer: u8) -> Result<Message, HallFault>
+        ensures { result_map_both means (λ f. f) result ≡ signed_if (model self.now.plan) (share_kind share) signer (share_subject share) }
     {
         if signer >= self.plan.seats() {
             return Err(HallFault::OutOfRange);
         }
-        if subject < 1 || subject > self.plan.rounds() as u16 {
-            return Err(HallFault::OutOfRange);
-        }
-        let round = Round::capped(subject as u8);
-        Ok(Message::Signed(Share::Beacon(round), SeatIndex::capped(signer)))
+        Ok(Message::Signed(share, SeatIndex::capped(signer)))
+    }
+
+    // a beacon share of one of the seats for one of the rounds
+    fn beacon_share(&self, signer: u8, subject: u16) -> Result<Message, HallFault>
+        ensures { result_map_both means (λ f. f) result ≡ beacon_if (model self.now.plan) signer subject }
+    {
+        let round = self.plan_round(subject)?;
+        self.signed(Share::Beacon(round), signer)
     }
 
     // a message of one of the kinds 1 to 5 about a block; the shares have one of the seats as signer, the others have signer 0
     fn block_message(&self, kind: u8, signer: u8, block: BlockNumber) -> Result<Message, HallFault>
-        ensures { message_answer result ≡ share_if (model self.now.plan) kind signer block.value }
+        ensures { result_map_both means (λ f. f) result ≡ share_if (model self.now.plan) kind signer block.value }
     {
-        if kind == 2 || kind == 4 {
-            if signer >= self.plan.seats() {
-                return Err(HallFault::OutOfRange);
-            }
-            let who = SeatIndex::capped(signer);
-            if kind == 2 {
-                return Ok(Message::Signed(Share::Notarization(block), who));
-            }
-            return Ok(Message::Signed(Share::Finalization(block), who));
-        }
-        if signer != 0 {
-            return Err(HallFault::OutOfRange);
-        }
-        match kind {
-            1 => Ok(Message::Block(block)),
-            3 => Ok(Message::Notarization(block)),
-            5 => Ok(Message::Finalization(block)),
+        match (kind, signer) {
+            (1, 0) => Ok(Message::Block(block)),
+            (2, _) => self.signed(Share::Notarization(block), signer),
+            (3, 0) => Ok(Message::Notarization(block)),
+            (4, _) => self.signed(Share::Finalization(block), signer),
+            (5, 0) => Ok(Message::Finalization(block)),
             _ => Err(HallFault::OutOfRange),
         }
     }
@@ -63,7 +57,7 @@ impl<B: SealBook> Hall<B> {
         signer: u8,
         subject: u16,
     ) -> Result<Message, HallFault>
-        ensures { message_answer result ≡ message_if (model self.now.plan) (world B.SealView.held self.now) kind signer subject }
+        ensures { result_map_both means (λ f. f) result ≡ message_if (model self.now.plan) (world B.SealView.held self.now) kind signer subject }
     {
         if kind == 6 {
             return self.beacon_share(signer, subject);
@@ -71,35 +65,19 @@ impl<B: SealBook> Hall<B> {
         if subject == 0 {
             return Err(HallFault::OutOfRange);
         }
-        match self.known_block(subject) {
-            Ok(block) => self.block_message(kind, signer, block),
-            Err(fault) => Err(fault),
-        }
+        let block = self.known_block(subject)?;
+        self.block_message(kind, signer, block)
     }
 
-    // how many of the seats have sealed this
-    fn sealed_count(&self, kind: u8, subject: u16) -> u8
-        ensures { result ≡ tally (λ s. B.SealView.held self.now.book kind s subject) (model self.now.plan).n }
+    // how many of the seats have sealed the share
+    fn sealed_count(&self, share: Share) -> u8
+        ensures { result ≡ tally (λ s. B.SealView.held self.now.book (share_kind share) s (share_subject share)) (model self.now.plan).n }
     {
-        let mut count = 0u8;
-        for seat in 0..self.plan.seats() {
-            if self.book.asked(kind, seat, subject) {
-                count += 1;
-            }
-        }
-        count
-    }
-
-    // whether the share is sealed
-    fn share_exists(&self, share: Share, signer: SeatIndex) -> bool
-        ensures { result ≡ exists (model self.now.plan) (world B.SealView.held self.now) (means (Signed share signer)) }
-    {
-        let seat = signer.value();
-        match share {
-            Share::Notarization(block) => self.book.asked(2, seat, block.value()),
-            Share::Finalization(block) => self.book.asked(4, seat, block.value()),
-            Share::Beacon(round) => self.book.asked(6, seat, round.value() as u16),
-        }
+        let kind = share.kind();
+        let subject = share.subject();
+        (0..self.plan.seats())
+            .filter(|&seat| self.book.asked(kind, seat, subject))
+            .count() as u8
     }
 
     /// Whether the message exists: a block when it is made, a share when its signer has sealed it, a notarization or finalization when a
@@ -109,11 +87,15 @@ impl<B: SealBook> Hall<B> {
     {
         match m {
             Message::Block(block) => self.tree.is_made(block),
-            Message::Signed(share, signer) => self.share_exists(share, signer),
-            Message::Notarization(block) => self.sealed_count(2, block.value())
-                >= self.plan.quorum(),
-            Message::Finalization(block) => self.sealed_count(4, block.value())
-                >= self.plan.quorum(),
+            Message::Signed(share, signer) => {
+                self.book.asked(share.kind(), signer.value(), share.subject())
+            }
+            Message::Notarization(block) => {
+                self.sealed_count(Share::Notarization(block)) >= self.plan.quorum()
+            }
+            Message::Finalization(block) => {
+                self.sealed_count(Share::Finalization(block)) >= self.plan.quorum()
+            }
         }
     }
 
@@ -121,7 +103,7 @@ impl<B: SealBook> Hall<B> {
     pub fn deliver(&mut self, seat: u8, kind: u8, signer: u8, subject: u16) -> Result<(), HallFault>
         ensures { Called B.SealView.held self.old self.new (Deliver seat kind signer subject) (answer seat subject result) }
     {
-        let who = self.honest_seat(seat)?;
+        let who = self.seat_of(Sort::Honest, seat)?;
         let m = self.message_of(kind, signer, subject)?;
         if !self.exists(m) {
             return Err(HallFault::NoMessage);

@@ -12,6 +12,7 @@ ghost use Rattle.hall.specs.Steps.{posting, Ran};
 ghost use Rattle.hall.specs.Answers.{Called};
 
 use super::Hall;
+use super::admit::Sort;
 use crate::fault::HallFault;
 use basics::numbers::{BlockNumber, SeatIndex};
 use seals::book::{SealBook, SealView};
@@ -80,7 +81,7 @@ impl<B: SealBook> Hall<B> {
     pub fn tick(&mut self, seat: u8, time: u32) -> Result<(), HallFault>
         ensures { Called B.SealView.held self.old self.new (Tick seat time) (answer seat 0 result) }
     {
-        let who = self.honest_seat(seat)?;
+        let who = self.seat_of(Sort::Honest, seat)?;
         self.run_tick(who, time)?;
         Ok(())
     }
@@ -89,7 +90,7 @@ impl<B: SealBook> Hall<B> {
     pub fn enter(&mut self, seat: u8) -> Result<(), HallFault>
         ensures { Called B.SealView.held self.old self.new (Enter seat) (answer seat 0 result) }
     {
-        let who = self.honest_seat(seat)?;
+        let who = self.seat_of(Sort::Honest, seat)?;
         let outgoing = self.run_enter(who)?;
         self.post(who, outgoing);
         Ok(())
@@ -99,11 +100,9 @@ impl<B: SealBook> Hall<B> {
     pub fn propose(&mut self, seat: u8, parent: u16, places: &[u8]) -> Result<(), HallFault>
         ensures { Called B.SealView.held self.old self.new (Propose seat parent places.now) (answer seat parent result) }
     {
-        let who = self.honest_seat(seat)?;
+        let who = self.seat_of(Sort::Honest, seat)?;
         let known = self.known_block(parent)?;
-        let Some(payload) = Payload::new(places) else {
-            return Err(HallFault::OutOfRange);
-        };
+        let payload = Payload::new(places).ok_or(HallFault::OutOfRange)?;
         let outgoing = self.run_propose(who, known, payload)?;
         self.post(who, outgoing);
         Ok(())
@@ -113,7 +112,7 @@ impl<B: SealBook> Hall<B> {
     pub fn echo(&mut self, seat: u8, block: u16) -> Result<(), HallFault>
         ensures { Called B.SealView.held self.old self.new (Echo seat block) (answer seat block result) }
     {
-        let who = self.honest_seat(seat)?;
+        let who = self.seat_of(Sort::Honest, seat)?;
         let known = self.known_block(block)?;
         let outgoing = self.run_echo(who, known)?;
         self.post(who, outgoing);
@@ -124,7 +123,7 @@ impl<B: SealBook> Hall<B> {
     pub fn finish(&mut self, seat: u8, block: u16) -> Result<(), HallFault>
         ensures { Called B.SealView.held self.old self.new (Finish seat block) (answer seat block result) }
     {
-        let who = self.honest_seat(seat)?;
+        let who = self.seat_of(Sort::Honest, seat)?;
         let known = self.known_block(block)?;
         let outgoing = self.run_finish(who, known)?;
         self.post(who, outgoing);
@@ -135,7 +134,7 @@ impl<B: SealBook> Hall<B> {
     pub fn commit(&mut self, seat: u8, block: u16) -> Result<(), HallFault>
         ensures { Called B.SealView.held self.old self.new (Commit seat block) (answer seat block result) }
     {
-        let who = self.honest_seat(seat)?;
+        let who = self.seat_of(Sort::Honest, seat)?;
         let known = self.known_block(block)?;
         let outgoing = self.run_commit(who, known)?;
         self.post(who, outgoing);

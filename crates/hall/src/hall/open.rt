@@ -34,11 +34,10 @@ impl<B: SealBook> Hall<B> {
 
     /// Opens a hall with a plan, which is used up, and a seal book, which is cleared. It cannot be refused. Each honest seat waits for
     /// round 1, its beacon share of that round sealed and broadcast; nothing else is there.
-    pub fn open(plan: Plan, book: B) -> Hall<B>
+    pub fn open(plan: Plan, mut book: B) -> Hall<B>
         ensures { Opened B.SealView.held plan result }
     {
-        let mut cleared = book;
-        cleared.clear();
+        book.clear();
         let seats = [Seat::fresh(); 13];
         let count = plan.seats();
         let mut hall = Hall {
@@ -46,7 +45,7 @@ impl<B: SealBook> Hall<B> {
             tree: Tree::new(),
             seats,
             broadcast: MessageSet::empty(),
-            book: cleared,
+            book,
         };
         for seat in 0..count {
             hall.share_first_beacon(seat);

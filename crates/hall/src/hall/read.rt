@@ -7,6 +7,7 @@ ghost use Rattle.seats.specs.Standings.{Stands};
 ghost use Rattle.hall.specs.Worlds.{no_seat, world};
 
 use super::Hall;
+use super::admit::Sort;
 use basics::numbers::SeatIndex;
 use seals::book::{SealBook, SealView};
 use seats::seat::{Seat, Standing};
@@ -33,13 +34,7 @@ impl<B: SealBook> Hall<B> {
             ((nat_lt seat (model self.now.plan).n && honest (model self.now.plan) seat) ≡ false)
             (λ x. ((nat_lt seat (model self.now.plan).n && honest (model self.now.plan) seat) ≡ true) × Stands x ((world B.SealView.held self.now).seat seat)) }
     {
-        if seat >= self.plan.seats() {
-            return None;
-        }
-        let index = SeatIndex::capped(seat);
-        if !self.plan.is_honest(index) {
-            return None;
-        }
+        let index = self.seat_of(Sort::Honest, seat).ok()?;
         Some(standing_in(&self.seats, index))
     }
 }

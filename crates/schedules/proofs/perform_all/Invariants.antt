@@ -6,8 +6,8 @@ use Rattle.hall.specs.Worlds.{world}
 use Rattle.schedules.specs.Ran.{all_asked, state_after}
 use Rattle.schedules.proofs.perform_all.Given as goal
 
-abbrev pub invariant-loop-i : goal.invariant-loop-i
-invariant-loop-i g l =
+abbrev pub invariant-loop-call : goal.invariant-loop-call
+invariant-loop-call g l =
     (l.hall.plan ≡ l.initial.hall.plan)
-    × (state_after (model l.initial.hall.plan) (world g.B.SealView.held l.hall) (all_asked (drop l.i l.calls))
+    × (state_after (model l.initial.hall.plan) (world g.B.SealView.held l.hall) (all_asked (drop l.call-index l.calls))
     ≡ state_after (model l.initial.hall.plan) (world g.B.SealView.held l.initial.hall) (all_asked l.calls))

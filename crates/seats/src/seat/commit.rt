@@ -1,9 +1,9 @@
 //! Committing a block, and with it its chain.
-ghost use Rattle.std.specs.Prelude.{◌≡◌, ℕ, ◌<◌, ◌≤◌, Bool, false, List, [], ◌++◌, take, drop, Ok, Err};
+ghost use Rattle.std.specs.Prelude.{◌≡◌, ℕ, ◌<◌, ◌≤◌, Bool, false, List, [], ◌++◌, length, drop, Ok, Err};
 ghost use Rattle.model.specs.Setup.{round_of};
 ghost use Rattle.model.specs.World.{chain_by};
 ghost use Rattle.model.specs.Checks.Call.{commit as Commit};
-ghost use Rattle.model.specs.Effects.{seat_after};
+ghost use Rattle.basics.specs.Elements.{elements};
 ghost use Rattle.plans.specs.Planned.{model};
 ghost use Rattle.tree.specs.Blocks.{parents};
 ghost use Rattle.seats.specs.Faults.{told};
@@ -13,78 +13,60 @@ ghost use Rattle.seats.specs.Desk.{bare_desk, verdict_past, Rule};
 ghost use Rattle.seats.specs.declared.fault.SeatFault.TheVariants.{WrongRound};
 
 use super::Seat;
+use crate::context::Context;
 use crate::fault::SeatFault;
 use crate::outgoing::Outgoing;
-use basics::numbers::{BlockNumber, SeatIndex};
-use messages::message::Message;
-use plans::plan::Plan;
+use basics::inline_list::InlineList;
+use basics::numbers::BlockNumber;
+use messages::message::{Message, Share};
 use tree::tree::Tree;
 
-// writes the chain of the block, of round `to`, into the table, from round `from` + 1 on: the parent first, then the block
-fn list_chain(tree: &Tree, table: &mut [u16; 8], from: u8, to: u8, block: BlockNumber)
-    requires { (from ≤ to) × (to ≤ 8) }
-    ensures { take to table.new ≡ take from table.old ++ drop from (chain_by (parents tree.now) to block.value) }
+// adds to the list the blocks of the chain of the block, of round `to`, that are past its end: the parent's first, then the block
+fn list_chain(tree: &Tree, list: &mut InlineList<u16, 8>, to: u8, block: BlockNumber)
+    requires { (length (elements list.old) ≤ to) × (to ≤ 8) }
+    ensures listed { elements list.new ≡ elements list.old ++ drop (length (elements list.old)) (chain_by (parents tree.now) to block.value) }
+    ensures full { length (elements list.new) ≡ to }
 {
-    if to > from {
-        list_chain(tree, table, from, to - 1, tree.parent(block));
-        table[to as usize - 1] = block.value();
+    if usize::from(to) > list.len() {
+        list_chain(tree, list, to - 1, tree.parent(block));
+        list.push(block.value());
     }
 }
 
 impl Seat {
     /// What `commit` would answer now. A block of a round past the eighth, which no plan has, is of a wrong round.
-    pub fn may_commit(
-        &self,
-        plan: &Plan,
-        tree: &Tree,
-        who: SeatIndex,
-        block: BlockNumber,
-    ) -> Result<(), SeatFault>
-        ensures within { round_of (model plan.now) block.value ≤ 8 → told who.value block.value result ≡ verdict_past 3 (model plan.now) (bare_desk tree.now self.now) (Commit who.value block.value) }
-        ensures beyond { 8 < round_of (model plan.now) block.value → result ≡ Err WrongRound }
+    #[tactic(auto, unfolding(crate::specs::Searches::combined_in, tree::specs::Blocks::valid_in))]
+    pub fn may_commit(&self, at: Context<'_>, block: BlockNumber) -> Result<(), SeatFault>
+        ensures within { round_of (model at.entry.plan.now) block.value ≤ 8 → told at.entry.who.value block.value result ≡ verdict_past 3 (model at.entry.plan.now) (bare_desk at.entry.tree.now self.now) (Commit at.entry.who.value block.value) }
+        ensures beyond { 8 < round_of (model at.entry.plan.now) block.value → result ≡ Err WrongRound }
     {
-        let round = plan.round_of(block);
-        if round > 8 {
+        let round = at.plan.round_of(block);
+        if round > 8 || self.k_max() >= round {
             return Err(SeatFault::WrongRound);
         }
-        if self.k_max >= round {
-            return Err(SeatFault::WrongRound);
-        }
-        if !tree.valid(plan, &self.pool, block) {
+        if !at.tree.valid(at.plan, &self.pool, block) {
             return Err(SeatFault::NotValid);
         }
-        if !self.is_finalizable(plan, block) {
+        if !self.is_combined(
+            at.plan,
+            Message::Finalization(block),
+            Share::Finalization(block),
+        ) {
             return Err(SeatFault::NotCombined);
         }
         Ok(())
     }
 
-    // the catalogue goes on to the block, of a round from here to the eighth
-    fn extend_catalogue(&mut self, plan: &Plan, tree: &Tree, block: BlockNumber)
-        requires { (self.old.k_max < round_of (model plan.now) block.value) × (round_of (model plan.now) block.value ≤ 8) }
-        ensures seat { seated self.new ≡ seat_after (model plan.now) (bare_desk tree.now self.old) (Commit 0 block.value) }
-        ensures pool { self.new.pool ≡ self.old.pool }
-    {
-        let round = plan.round_of(block);
-        list_chain(tree, &mut self.catalogue, self.k_max, round, block);
-        self.k_max = round;
-    }
-
     /// Commits a block: its chain's blocks of the rounds above the highest committed one go onto the catalogue, and its finalization is
     /// broadcast.
-    pub fn commit(
-        &mut self,
-        plan: &Plan,
-        tree: &Tree,
-        who: SeatIndex,
-        block: BlockNumber,
-    ) -> Result<Outgoing, SeatFault>
-        ensures within { round_of (model plan.now) block.value ≤ 8 → Rule 3 (model plan.now) (bare_desk tree.now self.old) (Commit who.value block.value) (told who.value block.value result) (sent result) (seated self.new) (λ _ _ _. false) }
-        ensures beyond { 8 < round_of (model plan.now) block.value → (result ≡ Err WrongRound) × (seated self.new ≡ seated self.old) }
+    pub fn commit(&mut self, at: Context<'_>, block: BlockNumber) -> Result<Outgoing, SeatFault>
+        ensures within { round_of (model at.entry.plan.now) block.value ≤ 8 → Rule 3 (model at.entry.plan.now) (bare_desk at.entry.tree.now self.old) (Commit at.entry.who.value block.value) (told at.entry.who.value block.value result) (sent result) (seated self.new) (λ _ _ _. false) }
+        ensures beyond { 8 < round_of (model at.entry.plan.now) block.value → (result ≡ Err WrongRound) × (seated self.new ≡ seated self.old) }
         ensures pool { self.new.pool ≡ self.old.pool }
     {
-        self.may_commit(plan, tree, who, block)?;
-        self.extend_catalogue(plan, tree, block);
+        self.may_commit(at, block)?;
+        let round = at.plan.round_of(block);
+        list_chain(at.tree, &mut self.progress.catalogue, round, block);
         Ok(Outgoing {
             block: None,
             whole: Some(Message::Finalization(block)),

@@ -10,6 +10,7 @@ ghost use Rattle.seats.specs.Seated.{seated};
 ghost use Rattle.seats.specs.Desk.{bare_desk, verdict_past, Rule, Makes};
 
 use super::Seat;
+use crate::context::Context;
 use crate::fault::SeatFault;
 use crate::outgoing::Outgoing;
 use basics::numbers::{BlockNumber, SeatIndex};
@@ -22,42 +23,38 @@ use tree::tree::Tree;
 pub(super) fn notarization_of(parent: BlockNumber) -> Option<Message>
     ensures { maybe result ≡ parent_notarization parent.value }
 {
-    if parent.value() == 0 {
-        return None;
-    }
-    Some(Message::Notarization(parent))
+    (parent.value() != 0).then_some(Message::Notarization(parent))
 }
 
 impl Seat {
     /// What `propose` would answer now.
+    #[tactic(auto, unfolding(tree::specs::Blocks::notarized_in, tree::specs::Blocks::chain_places))]
     pub fn may_propose(
         &self,
-        plan: &Plan,
-        tree: &Tree,
-        who: SeatIndex,
+        at: Context<'_>,
         parent: BlockNumber,
         payload: &Payload,
     ) -> Result<(), SeatFault>
-        ensures { told who.value parent.value result ≡ verdict_past 3 (model plan.now) (bare_desk tree.now self.now) (Propose who.value parent.value (places_of_payload payload.now)) }
+        ensures { told at.entry.who.value parent.value result ≡ verdict_past 3 (model at.entry.plan.now) (bare_desk at.entry.tree.now self.now) (Propose at.entry.who.value parent.value (places_of_payload payload.now)) }
     {
-        if !self.phase.is_in_round() {
+        if !self.phase().is_in_round() {
             return Err(SeatFault::Phase);
         }
-        if self.proposed {
+        if self.progress.proposed {
             return Err(SeatFault::ProposedBefore);
         }
-        let rank = plan.rank(self.round, who);
-        if self.clock.saturating_sub(self.start) < plan.prop_delay(rank) {
+        let rank = at.plan.rank(self.round(), at.who);
+        if self.progress.elapsed() < at.plan.prop_delay(rank) {
             return Err(SeatFault::TooSoon);
         }
-        let round = plan.round_of(parent);
-        if round + 1 != self.round.value() {
+        let round = at.plan.round_of(parent);
+        if round + 1 != self.round().value() {
             return Err(SeatFault::WrongRound);
         }
-        if !tree.notarized(plan, &self.pool, parent) {
+        if !at.tree.notarized(at.plan, &self.pool, parent) {
             return Err(SeatFault::NotValid);
         }
-        if !tree.sound(plan, round, parent, payload) {
+        if !at.tree.sound(at.plan, round, parent, payload) {
             return Err(SeatFault::Unsound);
         }
         Ok(())
@@ -76,10 +73,10 @@ impl Seat {
         ensures blocks { Makes 3 (model plan.now) (bare_desk tree.old self.old) (Propose who.value parent.value (places_of_payload payload)) tree.new }
         ensures pool { self.new.pool ≡ self.old.pool }
     {
-        self.may_propose(plan, tree, who, parent, &payload)?;
-        let block = plan.number(self.round, who, 0);
+        self.may_propose(Context { plan, tree, who }, parent, &payload)?;
+        let block = plan.number(self.round(), who, 0);
         tree.make(block, parent, payload);
-        self.proposed = true;
+        self.progress.proposed = true;
         let whole = notarization_of(parent);
         Ok(Outgoing {
             block: Some(Message::Block(block)),

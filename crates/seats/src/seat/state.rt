@@ -1,5 +1,5 @@
 //! A seat at the opening, its clock, and what can be read of it.
-ghost use Rattle.std.specs.Prelude.{◌≡◌, ℕ, ◌≤◌, Bool, true, false, ◌&&◌, [], length, if◌then◌else◌, Ok, Err, nat_le};
+ghost use Rattle.std.specs.Prelude.{◌≡◌, ℕ, ◌-◌, ◌≤◌, Bool, true, false, ◌&&◌, [], length, if◌then◌else◌, Ok, Err, nat_le};
 ghost use Rattle.basics.specs.Put.{put};
 ghost use Rattle.model.specs.World.{message};
 ghost use Rattle.model.specs.Checks.{is_in_round, is_waiting};
@@ -10,8 +10,9 @@ ghost use Rattle.seats.specs.Seated.{stage, seated, pooled};
 ghost use Rattle.seats.specs.Standings.{Stands};
 ghost use Rattle.seats.specs.declared.fault.SeatFault.TheVariants.{Clock};
 
-use super::{Phase, Seat, Standing};
+use super::{Phase, Progress, Seat, Standing};
 use crate::fault::SeatFault;
+use basics::inline_list::InlineList;
 use basics::numbers::Round;
 use messages::message::Message;
 use messages::set::MessageSet;
@@ -21,22 +22,23 @@ impl Phase {
     pub fn is_in_round(self) -> bool
         ensures { result ≡ is_in_round (stage self) }
     {
-        match self {
-            Phase::Waiting => false,
-            Phase::InRound => true,
-            Phase::Done => false,
-        }
+        self == Phase::InRound
     }
 
     /// Whether the seat waits for its round.
     pub fn is_waiting(self) -> bool
         ensures { result ≡ is_waiting (stage self) }
     {
-        match self {
-            Phase::Waiting => true,
-            Phase::InRound => false,
-            Phase::Done => false,
-        }
+        self == Phase::Waiting
+    }
+}
+
+impl Progress {
+    // how long the seat has been in its round
+    pub(super) fn elapsed(&self) -> u32
+        ensures { result ≡ self.now.clock - self.now.start }
+    {
+        self.clock.saturating_sub(self.start)
     }
 }
 
@@ -46,18 +48,18 @@ impl Seat {
         ensures seat { seated result ≡ fresh }
         ensures pool { pooled result ≡ nothing }
     {
-        let noted = [false; 313];
-        let catalogue = [0u16; 8];
-        Seat {
+        let progress = Progress {
             phase: Phase::Waiting,
             round: Round::capped(1),
             clock: 0,
             start: 0,
             proposed: false,
-            noted,
+            noted: [false; 313],
             disqualified: 0,
-            k_max: 0,
-            catalogue,
+            catalogue: InlineList::empty(),
+        };
+        Seat {
+            progress,
             pool: MessageSet::empty(),
         }
     }
@@ -66,14 +68,14 @@ impl Seat {
     pub fn phase(&self) -> Phase
         ensures { stage result ≡ (seated self.now).phase }
     {
-        self.phase
+        self.progress.phase
     }
 
     /// The round that the seat waits for or is in; the last one where it is done.
     pub fn round(&self) -> Round
         ensures { result.value ≡ (seated self.now).round }
     {
-        self.round
+        self.progress.round
     }
 
     /// The highest committed round.
@@ -81,34 +83,32 @@ impl Seat {
         ensures is { result ≡ (seated self.now).k_max }
         ensures few { result ≤ 8 }
     {
-        self.k_max
+        self.progress.catalogue.len() as u8
     }
 
     /// The numbers of the committed blocks, lowest round first.
     pub fn catalogue(&self) -> &[u16]
         ensures { result.now ≡ (seated self.now).catalogue }
     {
-        &self.catalogue[0..self.k_max as usize]
+        self.progress.catalogue.as_slice()
     }
 
     /// How the seat stands.
-    pub fn standing(&self) -> Standing
+    pub fn standing(&self) -> Standing<'_>
         ensures { Stands result (seated self.now) }
     {
-        let catalogue = self.catalogue;
         Standing {
-            phase: self.phase,
-            round: self.round.value(),
-            k_max: self.k_max,
-            catalogue,
+            phase: self.progress.phase,
+            round: self.progress.round,
+            catalogue: self.progress.catalogue.as_slice(),
         }
     }
 
     /// What setting the clock to this time would answer: a clock never goes back, nor past 1,000,000,000.
     pub fn may_tick(&self, time: u32) -> Result<(), SeatFault>
-        ensures { result ≡ (if nat_le self.now.clock time && nat_le time 1000000000 then Ok tt else Err Clock) }
+        ensures { result ≡ (if nat_le (seated self.now).clock time && nat_le time 1000000000 then Ok tt else Err Clock) }
     {
-        if time < self.clock || time > 1000000000 {
+        if time < self.progress.clock || time > 1000000000 {
             return Err(SeatFault::Clock);
         }
         Ok(())
@@ -116,12 +116,12 @@ impl Seat {
 
     /// Sets the clock.
     pub fn tick(&mut self, time: u32) -> Result<(), SeatFault>
-        ensures answer { result ≡ (if nat_le self.old.clock time && nat_le time 1000000000 then Ok tt else Err Clock) }
-        ensures seat { seated self.new ≡ (if nat_le self.old.clock time && nat_le time 1000000000 then at_clock time (seated self.old) else seated self.old) }
+        ensures answer { result ≡ (if nat_le (seated self.old).clock time && nat_le time 1000000000 then Ok tt else Err Clock) }
+        ensures seat { seated self.new ≡ (if nat_le (seated self.old).clock time && nat_le time 1000000000 then at_clock time (seated self.old) else seated self.old) }
         ensures pool { self.new.pool ≡ self.old.pool }
     {
         self.may_tick(time)?;
-        self.clock = time;
+        self.progress.clock = time;
         Ok(())
     }
 

@@ -1,60 +1,31 @@
-use Rattle.std.proofs.Common.{◌≡◌, ℕ, drop, Ok, Err, Result, sym, refl, ap, ◌∙◌, subst}
-use Rattle.std.proofs.lemmas.Result.{err_from_is_err_and}
-use Rattle.model.specs.Setup.{honest}
-use Rattle.model.specs.Checks.{checks, verdict}
+use Rattle.std.proofs.Common.{ℕ, refl, ap, ◌∙◌}
 use Rattle.model.specs.Checks.Call.{enter}
-use Rattle.plans.specs.Planned.{model}
-use Rattle.seats.specs.declared.fault.SeatFault.{SeatFault}
-use Rattle.seats.specs.declared.outgoing.Outgoing.{Outgoing}
-use Rattle.seats.specs.Faults.{told}
-use Rattle.seats.specs.Sent.{sent, listed}
-use Rattle.seats.specs.Desk.{verdict_past}
-use Rattle.hall.specs.declared.fault.HallFault.{HallFault}
-use Rattle.hall.specs.Faults.{answer}
+use Rattle.seats.specs.Sent.{listed}
 use Rattle.hall.specs.Worlds.{world}
-use Rattle.hall.specs.Steps.{Ran, posting}
-use Rattle.hall.specs.Answers.{Called}
-use Rattle.hall.proofs.Steps.{seat_found, seat_missed, refuses, rule_refused, rule_accepted}
+use Rattle.hall.specs.Steps.{posting}
+use Rattle.hall.proofs.Steps.{seat_refused, past_seat, rule_turned_away, rule_accepted}
 use Rattle.hall.proofs.hall.Hall.enter.Goals as goal
 
 pub returns-in_err-who : goal.returns-in_err-who
 returns-in_err-who g c =
-    let h = c.args.self.now in
-    let held = g.B.SealView.held in
-    let p = model h.plan in
-    let w = world held h in
-    let s = c.args.seat in
-    let q = err_from_is_err_and c.from_residual.result c.from_residual.ensures.1 in
-    subst (λ (r : Result (Unit {0}) HallFault). Called held h h (enter s) (answer s 0 r)) (sym (q.1 ∙ ap Err q.2))
-    (refuses held h (enter s) h s 0 c.in_err-who.field-0.0 refl (seat_missed p (honest p s) s 0 c.in_err-who.field-0.0 (drop 2 (checks p w (enter s))) c.in_err-who.ensures) refl)
+    seat_refused g.B.SealView.held c.args.self.now (enter c.args.seat) _ 0 refl _ _ c.in_err-who.ensures c.from_residual.ensures.1
 
 pub returns-in_err-outgoing : goal.returns-in_err-outgoing
 returns-in_err-outgoing g c =
     let h = c.args.self.now in
     let held = g.B.SealView.held in
-    let p = model h.plan in
-    let w = world held h in
     let s = c.args.seat in
-    let seat_ok = seat_found p (honest p s) s 0 c.in_ok-who.who.value (drop 2 (checks p w (enter s))) c.in_ok-who.ensures in
-    let past : verdict p w (enter s) ≡ verdict_past 2 p w (enter s) = seat_ok.1.1 in
-    let h₁ = c.run_enter.new.self in
-    let refusal : Result Outgoing SeatFault = Err c.in_err-outgoing.field-0.0 in
-    let ran = subst (λ (i : ℕ). Ran held 2 h h₁ (enter i) (told i 0 refusal) (sent refusal)) seat_ok.0 c.in_err-outgoing.ensures in
-    let q = err_from_is_err_and c.from_residual-in_err-outgoing.result c.from_residual-in_err-outgoing.ensures.1 in
-    subst (λ (r : Result (Unit {0}) HallFault). Called held h h₁ (enter s) (answer s 0 r)) (sym (q.1 ∙ ap Err q.2))
-    (rule_refused held h (enter s) 2 past h₁ s 0 c.in_err-outgoing.field-0.0 ran)
+    let seat = past_seat held h (enter s) _ 0 refl _ c.in_ok-who.ensures in
+    rule_turned_away held h (enter s) 2 seat.1 c.run_enter.new.self s 0 _ _ c.from_residual-in_err-outgoing.ensures.1
+    (rw seat.0 at c.in_err-outgoing.ensures)
 
 pub returns : goal.returns
 returns g c =
     let h = c.args.self.now in
     let held = g.B.SealView.held in
-    let p = model h.plan in
-    let w = world held h in
     let s = c.args.seat in
-    let seat_ok = seat_found p (honest p s) s 0 c.in_ok-who.who.value (drop 2 (checks p w (enter s))) c.in_ok-who.ensures in
-    let past : verdict p w (enter s) ≡ verdict_past 2 p w (enter s) = seat_ok.1.1 in
+    let seat = past_seat held h (enter s) _ 0 refl _ c.in_ok-who.ensures in
     let h₁ = c.run_enter.new.self in
-    let done : Result Outgoing SeatFault = Ok c.in_ok-outgoing.outgoing in
-    let ran = subst (λ (i : ℕ). Ran held 2 h h₁ (enter i) (told i 0 done) (sent done)) seat_ok.0 c.in_ok-outgoing.ensures in
-    rule_accepted held h (enter s) 2 past h₁ c.post.new.self (listed c.in_ok-outgoing.outgoing) ran c.post.ensures.plan
-    (c.post.ensures.world ∙ ap (λ (k : ℕ). posting k (listed c.in_ok-outgoing.outgoing) (world held h₁)) seat_ok.0) refl
+    let out = listed c.in_ok-outgoing.outgoing in
+    rule_accepted held h (enter s) 2 seat.1 h₁ c.post.new.self out (rw seat.0 at c.in_ok-outgoing.ensures) c.post.ensures.plan
+    (c.post.ensures.world ∙ ap (λ (k : ℕ). posting k out (world held h₁)) seat.0) refl

@@ -1,20 +1,17 @@
-use Rattle.std.proofs.Common.{◌≡◌, ℕ, ◌+◌, Bool, cond, sym, ap, add-one, arith}
+use Rattle.std.proofs.Common.{ℕ, Bool, ap, ap₂, ◌∙◌, rules}
+use borrow.Author.Tests.{tests}
+use Rattle.std.proofs.lemmas.Iterator.Consumers.{YieldsList-at, YieldsList-from_filter, count_from_yields_List}
 use Rattle.basics.specs.Count.{tally}
-use Rattle.basics.proofs.CountLaws.{tally_le}
+use Rattle.plans.specs.Planned.{model}
+use Rattle.hall.proofs.Counts.{range_below, length-filter-range}
 use Rattle.hall.proofs.hall.Hall.sealed_count.Goals as goal
-use Rattle.hall.proofs.hall.Hall.sealed_count.Goals.{then-asked, else-asked}
 
-pub overflow_add-count : goal.overflow_add-count
-overflow_add-count g c =
-    let f : ℕ → Bool = λ s. g.B.SealView.held c.args.self.now.book c.args.kind s c.args.subject in
-    omega (arith, c.loop-seat.invariant, tally_le f c.loop-seat.seat, c.loop-seat-test.true, c.seats-seat-end.ensures.few)
-
-pub loop-seat-preserved : goal.loop-seat-preserved
-loop-seat-preserved g c =
-    let f : ℕ → Bool = λ s. g.B.SealView.held c.args.self.now.book c.args.kind s c.args.subject in
-    let i = c.loop-seat.seat in
-    let step : tally f (i + 1) ≡ tally f i + cond (f i) 1 0 = ap (tally f) (add-one i) in
-    elim c.if-asked.branch [
-      | then-asked w ↦ (let y : cond {A = ℕ} (f i) 1 0 ≡ 1 = ap (λ b. cond {A = ℕ} b 1 0) (sym w.if-asked.ensures) in omega (arith, w.count-is, step, y, c.loop-seat.invariant))
-      | else-asked w ↦ (let n : cond {A = ℕ} (f i) 1 0 ≡ 0 = ap (λ b. cond {A = ℕ} b 1 0) (sym w.if-asked.ensures) in omega (arith, w.count-is, step, n, c.loop-seat.invariant))
-    ]
+pub returns : goal.returns
+returns g c =
+    let sealed : ℕ → ℕ → ℕ → Bool = λ k x s. g.B.SealView.held c.args.self.now.book k s x in
+    let test = sealed c.kind.result c.subject.result in
+    let n = c.seats.result in
+    count_from_yields_List c.filter.result c.count.result c.count.ensures.ran
+        (YieldsList-from_filter _ test (YieldsList-at c.filter.ensures.source (range_below n)) c.filter.ensures.closure (λ x r q k. search (rules, tests)))
+    ∙ length-filter-range test n ∙ ap (tally test) c.seats.ensures.is
+    ∙ ap₂ (λ (k x : ℕ). tally (sealed k x) (model c.args.self.now.plan).n) c.kind.ensures c.subject.ensures
