@@ -27,8 +27,8 @@ returns g c =
     let out = c.commit.result in
     let same = c.value.ensures.same in
     let long : i < length h.seats = search rules in
-    let here : get_or h.seats i c.index-self-value.result ≡ get_or h.seats s no_seat =
-    sym c.index-self-value.is ∙ get_or_read h.seats i c.index-self-value.result long c.index-self-value.is no_seat ∙ ap (λ (k : ℕ). get_or h.seats k no_seat) same in
+    let here : get_or h.seats i c.index-seats-value.result ≡ get_or h.seats s no_seat =
+    sym c.index-seats-value.is ∙ get_or_read h.seats i c.index-seats-value.result long c.index-seats-value.is no_seat ∙ ap (λ (k : ℕ). get_or h.seats k no_seat) same in
     let rule = subst (λ (x : Seat). Rule 3 p (bare_desk h.tree x) (commit s b) (told s b out) (sent out) (seated x') (λ _ _ _. false)) here (c.commit.ensures.within c.requires) in
     let go = accepts 3 p w (commit s b) in
     record {

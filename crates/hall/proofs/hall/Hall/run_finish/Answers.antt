@@ -26,8 +26,8 @@ returns g c =
     let out = c.finish.result in
     let same = c.value.ensures.same in
     let long : i < length h.seats = search rules in
-    let here : get_or h.seats i c.index-self-value.result ≡ get_or h.seats s no_seat =
-    sym c.index-self-value.is ∙ get_or_read h.seats i c.index-self-value.result long c.index-self-value.is no_seat ∙ ap (λ (k : ℕ). get_or h.seats k no_seat) same in
+    let here : get_or h.seats i c.index-seats-value.result ≡ get_or h.seats s no_seat =
+    sym c.index-seats-value.is ∙ get_or_read h.seats i c.index-seats-value.result long c.index-seats-value.is no_seat ∙ ap (λ (k : ℕ). get_or h.seats k no_seat) same in
     let rule = subst (λ (x : Seat). Rule 3 p (desk h.tree (held h.book) x) (finish s b) (told s b out) (sent out) (seated x') (held c.finish.new.book)) here c.finish.ensures.rule in
     let go = accepts 3 p w (finish s b) in
     record {

@@ -39,7 +39,7 @@ returns g c =
     let long : i < length h.seats = search rules in
     let here : get_or h.seats i c.index-self-value.result ≡ get_or h.seats s no_seat =
     sym c.index-self-value.is ∙ get_or_read h.seats i c.index-self-value.result long c.index-self-value.is no_seat ∙ ap (λ (k : ℕ). get_or h.seats k no_seat) same in
-    let ok : Seat → Bool = λ x. leb x.clock time && leb time 1000000000 in
+    let ok : Seat → Bool = λ x. leb x.progress.clock time && leb time 1000000000 in
     let x = get_or h.seats s no_seat in
     let answer = c.tick.ensures.answer ∙ ap (λ (y : Seat). cond {A = Result (Unit {0}) SeatFault} (ok y) (Ok tt) (Err Clock)) here in
     let go = accepts 2 p w (tick s time) in
