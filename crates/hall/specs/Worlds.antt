@@ -12,17 +12,17 @@ use Rattle.hall.specs.declared.hall.Hall.{Hall}
 -- a seat past the last one: as at the opening, with an empty pool
 abbrev pub no_seat : Seat
 no_seat = record {
-  phase = Waiting;
-  round = record { value = 1; kind = record {}; first = omega arith; last = omega arith };
-  clock = 0;
-  start = 0;
-  proposed = false;
-  noted = [];
-  disqualified = 0;
-  k_max = 0;
-  catalogue = [];
+  progress = record {
+    phase = Waiting;
+    round = record { value = 1; kind = record {}; first = omega arith; last = omega arith };
+    clock = 0;
+    start = 0;
+    proposed = false;
+    noted = [];
+    disqualified = 0;
+    catalogue = record { slots = []; len = 0; few = omega arith };
+  };
   pool = record { rows = [] };
-  committed = omega arith;
 }
 
 -- the state, where held says which seals a book holds

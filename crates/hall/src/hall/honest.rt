@@ -16,6 +16,7 @@ use super::admit::Sort;
 use crate::fault::HallFault;
 use basics::numbers::{BlockNumber, SeatIndex};
 use seals::book::{SealBook, SealView};
+use seats::context::Context;
 use seats::fault::SeatFault;
 use seats::outgoing::Outgoing;
 use tree::payload::Payload;
@@ -59,14 +60,26 @@ impl<B: SealBook> Hall<B> {
     fn run_echo(&mut self, who: SeatIndex, block: BlockNumber) -> Result<Outgoing, SeatFault>
         ensures { Ran B.SealView.held 3 self.old self.new (Echo who.value block.value) (told who.value block.value result) (sent result) }
     {
-        self.seats[who.value() as usize].echo(&self.plan, &self.tree, &mut self.book, who, block)
+        let seats = &mut self.seats;
+        let at = Context {
+            plan: &self.plan,
+            tree: &self.tree,
+            who,
+        };
+        seats[who.value() as usize].echo(at, &mut self.book, block)
     }
 
     // the seat's rule
     fn run_finish(&mut self, who: SeatIndex, block: BlockNumber) -> Result<Outgoing, SeatFault>
         ensures { Ran B.SealView.held 3 self.old self.new (Finish who.value block.value) (told who.value block.value result) (sent result) }
     {
-        self.seats[who.value() as usize].finish(&self.plan, &self.tree, &mut self.book, who, block)
+        let seats = &mut self.seats;
+        let at = Context {
+            plan: &self.plan,
+            tree: &self.tree,
+            who,
+        };
+        seats[who.value() as usize].finish(at, &mut self.book, block)
     }
 
     // the seat's rule
@@ -74,7 +87,13 @@ impl<B: SealBook> Hall<B> {
         requires { round_of (model self.old.plan) block.value ≤ 8 }
         ensures { Ran B.SealView.held 3 self.old self.new (Commit who.value block.value) (told who.value block.value result) (sent result) }
     {
-        self.seats[who.value() as usize].commit(&self.plan, &self.tree, who, block)
+        let seats = &mut self.seats;
+        let at = Context {
+            plan: &self.plan,
+            tree: &self.tree,
+            who,
+        };
+        seats[who.value() as usize].commit(at, block)
     }
 
     /// Sets an honest seat's clock.

@@ -8,11 +8,12 @@ ghost use Rattle.hall.specs.Answers.{Opened};
 
 use super::Hall;
 use basics::numbers::{Round, SeatIndex};
-use messages::message::{Message, Share};
+use messages::message::Share;
 use messages::set::MessageSet;
 use plans::plan::Plan;
 use seals::book::{SealBook, SealView};
 use seats::seat::Seat;
+use seats::signing::sign;
 use tree::tree::Tree;
 
 impl<B: SealBook> Hall<B> {
@@ -26,8 +27,7 @@ impl<B: SealBook> Hall<B> {
         if !self.plan.is_honest(who) {
             return;
         }
-        let share = Message::Signed(Share::Beacon(Round::capped(1)), who);
-        let _ = self.book.seal(6, seat, 1);
+        let share = sign(&mut self.book, Share::Beacon(Round::capped(1)), who);
         self.seats[seat as usize].receive(share);
         self.broadcast.insert(share);
     }

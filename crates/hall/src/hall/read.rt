@@ -13,7 +13,7 @@ use seals::book::{SealBook, SealView};
 use seats::seat::{Seat, Standing};
 
 // how one of the seats stands
-fn standing_in(seats: &[Seat; 13], index: SeatIndex) -> Standing
+fn standing_in(seats: &[Seat; 13], index: SeatIndex) -> Standing<'_>
     ensures { Stands result (seated (slice_index_or seats.now index.value no_seat)) }
 {
     seats[index.value() as usize].standing()
@@ -29,7 +29,7 @@ impl<B: SealBook> Hall<B> {
     }
 
     /// How an honest seat stands; of any other there is nothing to say.
-    pub fn standing(&self, seat: u8) -> Option<Standing>
+    pub fn standing(&self, seat: u8) -> Option<Standing<'_>>
         ensures { MatchOption result
             ((nat_lt seat (model self.now.plan).n && honest (model self.now.plan) seat) ≡ false)
             (λ x. ((nat_lt seat (model self.now.plan).n && honest (model self.now.plan) seat) ≡ true) × Stands x ((world B.SealView.held self.now).seat seat)) }
