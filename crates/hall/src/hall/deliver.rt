@@ -1,5 +1,5 @@
 //! Deliveries: a message that exists comes into an honest seat's pool.
-ghost use Rattle.std.specs.Prelude.{◌≡◌, ℕ, ◌≤◌, nat_le};
+ghost use Rattle.std.specs.Prelude.{◌≡◌, nat_le};
 ghost use Rattle.std.specs.Result.{result_map_both};
 ghost use Rattle.basics.specs.Count.{tally};
 ghost use Rattle.model.specs.Setup.{quorum};
@@ -90,7 +90,8 @@ impl<B: SealBook> Hall<B> {
         match m {
             Message::Block(block) => self.tree.is_made(block),
             Message::Signed(share, signer) => {
-                self.book.asked(share.kind(), signer.value(), share.subject())
+                self.book
+                    .asked(share.kind(), signer.value(), share.subject())
             }
             Message::Notarization(block) => self.quorum_sealed(Share::Notarization(block)),
             Message::Finalization(block) => self.quorum_sealed(Share::Finalization(block)),

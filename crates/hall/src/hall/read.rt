@@ -1,5 +1,5 @@
 //! What can be read of a hall.
-ghost use Rattle.std.specs.Prelude.{◌≡◌, ℕ, ◌≤◌, true, false, ◌&&◌, MatchOption, nat_lt, slice_index_or};
+ghost use Rattle.std.specs.Prelude.{◌≡◌, ◌≤◌, true, false, ◌&&◌, MatchOption, nat_lt, slice_index_or};
 ghost use Rattle.model.specs.Setup.{honest};
 ghost use Rattle.plans.specs.Planned.{model};
 ghost use Rattle.seats.specs.Seated.{seated};

@@ -13,7 +13,7 @@ returns g c =
     let n = c.seats.result in
     let counted : c.count-sealed.result ≡ tally test n =
     count_from_yields_List c.filter.result c.count-sealed.result c.count-sealed.ensures.ran
-        (YieldsList-from_filter _ test (YieldsList-at c.filter.ensures.source (range_below n)) c.filter.ensures.closure (λ x r q k. search (rules, tests)))
+    (YieldsList-from_filter _ test (YieldsList-at c.filter.ensures.source (range_below n)) c.filter.ensures.closure (λ x r q k. search (rules, tests)))
     ∙ length-filter-range test n in
     ap₂ leb (c.from.ensures ∙ c.quorum.ensures)
-        (counted ∙ ap (tally test) c.seats.ensures.is ∙ ap₂ (λ (k x : ℕ). tally (seals k x) (model c.args.self.now.plan).n) c.kind-kind.ensures c.subject-subject.ensures)
+    (counted ∙ ap (tally test) c.seats.ensures.is ∙ ap₂ (λ (k x : ℕ). tally (seals k x) (model c.args.self.now.plan).n) c.kind-kind.ensures c.subject-subject.ensures)

@@ -1,4 +1,4 @@
-use Rattle.std.proofs.Common.{ℕ, ◌<◌, length, refl, ap, ◌∙◌, subst, rules}
+use Rattle.std.proofs.Common.{◌<◌, length, refl, ap, ◌∙◌, subst, rules}
 use Rattle.model.specs.Checks.Call.{finish}
 use Rattle.messages.specs.Stored.{stored}
 use Rattle.plans.specs.Planned.{model}

@@ -1,4 +1,4 @@
-use Rattle.std.proofs.Common.{ℕ, ◌<◌, false, length, ap, ◌∙◌, subst, rules}
+use Rattle.std.proofs.Common.{◌<◌, false, length, ap, ◌∙◌, subst, rules}
 use Rattle.model.specs.Checks.Call.{propose}
 use Rattle.messages.specs.Stored.{stored}
 use Rattle.plans.specs.Planned.{model}
