@@ -1,10 +1,9 @@
--- The numbers below a bound as a list: how many pass a test, and whether one does.
-use Rattle.std.proofs.Common.{◌≡◌, ℕ, zero, suc, ◌+◌, Bool, true, false, cond, ◌||◌, List, [], ◌∷◌, ◌++◌, length, refl, ap, ◌∙◌, sym, add-zero, arith}
-use Rattle.std.proofs.lemmas.List.Folds.{list_any-append}
+-- The numbers below a bound as a list, and how many of them pass a test.
+use Rattle.std.proofs.Common.{◌≡◌, ℕ, zero, suc, ◌+◌, Bool, true, false, cond, List, [], ◌∷◌, ◌++◌, length, refl, ap, ◌∙◌, sym, add-zero, arith}
 use Rattle.std.proofs.lemmas.Iterator.{YieldsList, YieldsList-from_range}
 use Rattle.std.proofs.iter.Yields.{nat_range_steps}
-use Rattle.std.specs.List.{filter, list_any, range_with_len}
-use Rattle.basics.specs.Count.{tally, some_below}
+use Rattle.std.specs.List.{filter, range_with_len}
+use Rattle.basics.specs.Count.{tally}
 
 -- one number more is at the end
 range_with_len-suc : (a n : ℕ) → range_with_len a (suc n) ≡ range_with_len a n ++ (a + n) ∷ []
@@ -31,13 +30,3 @@ module _ (test : ℕ → Bool) where
       ap (λ l. length (filter test l)) (range_with_len-suc 0 n) ∙ length-filter-append (range_with_len 0 n) (0 + n)
       ∙ (let e : 0 + n ≡ n = omega arith in ap (λ k. length (filter test (range_with_len 0 n)) + cond (test k) 1 0) e)
       ∙ ap (λ k. k + cond (test n) 1 0) (length-filter-range n)
-
-  pub list_any-range : (n : ℕ) → list_any test (range_with_len 0 n) ≡ some_below test n
-  list_any-range zero = refl
-  list_any-range (suc n) =
-      ap (list_any test) (range_with_len-suc 0 n) ∙ list_any-append test (range_with_len 0 n) ((0 + n) ∷ [])
-      ∙ (let e : 0 + n ≡ n = omega arith in ap (λ k. list_any test (range_with_len 0 n) || list_any test (k ∷ [])) e)
-      ∙ last (list_any test (range_with_len 0 n)) (some_below test n) (test n) (list_any-range n)
-    where
-      last : (a b c : Bool) → a ≡ b → (a || (c || false)) ≡ (b || c)
-      last a b c e = grind arith

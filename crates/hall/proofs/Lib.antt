@@ -2,6 +2,7 @@
 pub mod Deliveries
 pub mod Counts
 pub mod Updates
+pub mod Rules
 pub mod Steps
 pub mod Ranges
 pub mod Proposals

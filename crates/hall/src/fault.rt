@@ -6,7 +6,7 @@ ghost use Rattle.hall.specs.Faults.{hall_fault_number, hall_fault_layer, hall_fa
 use seats::fault::SeatFault;
 
 /// The refusals of a hall, with the seat's refusal whole inside.
-#[derive(Clone, Copy)]
+#[derive(Clone, Copy, Debug, PartialEq, Eq)]
 pub enum HallFault {
     /// there is no such seat
     NoSeat,
@@ -26,6 +26,7 @@ pub enum HallFault {
     Seat(SeatFault),
 }
 
+// By hand: the clauses of the calls need to know which refusal a `?` makes of a seat's, which no derive says.
 impl From<SeatFault> for HallFault {
     ghost from_gives = { λ f r. r ≡ Seat f };
 

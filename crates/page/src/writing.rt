@@ -32,16 +32,16 @@ fn report<B: SealBook>(hall: &Hall<B>, seat: u8) -> Option<SeatReport>
         ((nat_lt seat (model hall.now.plan).n && honest (model hall.now.plan) seat) ≡ false)
         (λ x. ((nat_lt seat (model hall.now.plan).n && honest (model hall.now.plan) seat) ≡ true) × Reported x ((world B.SealView.held hall.now).seat seat)) }
 {
-    let Some(standing) = hall.standing(seat) else {
-        return None;
-    };
-    let catalogue = standing.catalogue;
+    let standing = hall.standing(seat)?;
+    let count = standing.catalogue.len();
+    let mut catalogue = [0; 8];
+    catalogue[..count].copy_from_slice(standing.catalogue);
     Some(SeatReport {
         state: state_of(standing.phase),
-        round: standing.round,
-        k_max: standing.k_max,
+        round: standing.round.value(),
+        k_max: count as u8,
         catalogue,
-        count: usize::from(standing.k_max),
+        count,
     })
 }
 

@@ -1,5 +1,5 @@
 //! The checks that begin a call.
-ghost use Rattle.std.specs.Prelude.{◌≡◌, ℕ};
+ghost use Rattle.std.specs.Prelude.{◌≡◌};
 ghost use Rattle.std.specs.Result.{result_map_both};
 ghost use Rattle.plans.specs.Planned.{model};
 ghost use Rattle.hall.specs.Worlds.{world};

@@ -1,6 +1,5 @@
 //! The calls of corrupt seats. They fill no pool.
-ghost use Rattle.std.specs.Prelude.{◌≡◌, ℕ, min, Bool, cond, ◌&&◌, ◌||◌, ◌==◌};
-ghost use Rattle.model.specs.Setup.{number};
+ghost use Rattle.std.specs.Prelude.{◌≡◌, ◌&&◌, ◌==◌};
 ghost use Rattle.model.specs.Checks.{same_list, made_in, forged_before};
 ghost use Rattle.model.specs.Checks.Call.{forge as Forge, seal as Seal};
 ghost use Rattle.plans.specs.Planned.{model};
@@ -19,18 +18,10 @@ use seals::book::{SealBook, SealView};
 use tree::payload::Payload;
 
 impl<B: SealBook> Hall<B> {
-    // whether the seat's block of this variant in the round was made, with this parent and these places
-    fn is_forged(
-        &self,
-        who: SeatIndex,
-        round: Round,
-        variant: u8,
-        parent: BlockNumber,
-        payload: &Payload,
-    ) -> bool
-        ensures { result ≡ (mades self.now.tree (number (model self.now.plan) round.value who.value (min variant 2)) && (parents self.now.tree (number (model self.now.plan) round.value who.value (min variant 2)) == parent.value && same_list (payloads self.now.tree (number (model self.now.plan) round.value who.value (min variant 2))) (listed payload.now))) }
+    // whether the block was made, with this parent and these places
+    fn is_made_with(&self, block: BlockNumber, parent: BlockNumber, payload: &Payload) -> bool
+        ensures { result ≡ (mades self.now.tree block.value && (parents self.now.tree block.value == parent.value && same_list (payloads self.now.tree block.value) (listed payload.now))) }
     {
-        let block = self.plan.number(round, who, variant);
         self.tree.is_made(block)
             && self.tree.parent(block) == parent
             && self.tree.payload(block).is_same(payload)
@@ -46,7 +37,9 @@ impl<B: SealBook> Hall<B> {
     ) -> bool
         ensures { result ≡ forged_before (model self.now.plan) (world B.SealView.held self.now) who.value round.value parent.value (listed payload.now) }
     {
-        (0..3u8).any(|variant| self.is_forged(who, round, variant, parent, payload))
+        (0..3u8).any(|variant| {
+            self.is_made_with(self.plan.number(round, who, variant), parent, payload)
+        })
     }
 
     // how many blocks the seat has forged in the round

@@ -1,7 +1,8 @@
 //! Deliveries: a message that exists comes into an honest seat's pool.
-ghost use Rattle.std.specs.Prelude.{◌≡◌, ℕ, ◌≤◌};
+ghost use Rattle.std.specs.Prelude.{◌≡◌, nat_le};
 ghost use Rattle.std.specs.Result.{result_map_both};
 ghost use Rattle.basics.specs.Count.{tally};
+ghost use Rattle.model.specs.Setup.{quorum};
 ghost use Rattle.model.specs.World.{exists};
 ghost use Rattle.model.specs.Checks.Call.{deliver as Deliver};
 ghost use Rattle.messages.specs.Meaning.{means, share_kind, share_subject};
@@ -69,15 +70,16 @@ impl<B: SealBook> Hall<B> {
         self.block_message(kind, signer, block)
     }
 
-    // how many of the seats have sealed the share
-    fn sealed_count(&self, share: Share) -> u8
-        ensures { result ≡ tally (λ s. B.SealView.held self.now.book (share_kind share) s (share_subject share)) (model self.now.plan).n }
+    // whether a quorum of the seats has sealed the share
+    fn quorum_sealed(&self, share: Share) -> bool
+        ensures { result ≡ nat_le (quorum (model self.now.plan)) (tally (λ s. B.SealView.held self.now.book (share_kind share) s (share_subject share)) (model self.now.plan).n) }
     {
         let kind = share.kind();
         let subject = share.subject();
-        (0..self.plan.seats())
+        let sealed = (0..self.plan.seats())
             .filter(|&seat| self.book.asked(kind, seat, subject))
-            .count() as u8
+            .count();
+        sealed >= usize::from(self.plan.quorum())
     }
 
     /// Whether the message exists: a block when it is made, a share when its signer has sealed it, a notarization or finalization when a
@@ -88,14 +90,11 @@ impl<B: SealBook> Hall<B> {
         match m {
             Message::Block(block) => self.tree.is_made(block),
             Message::Signed(share, signer) => {
-                self.book.asked(share.kind(), signer.value(), share.subject())
+                self.book
+                    .asked(share.kind(), signer.value(), share.subject())
             }
-            Message::Notarization(block) => {
-                self.sealed_count(Share::Notarization(block)) >= self.plan.quorum()
-            }
-            Message::Finalization(block) => {
-                self.sealed_count(Share::Finalization(block)) >= self.plan.quorum()
-            }
+            Message::Notarization(block) => self.quorum_sealed(Share::Notarization(block)),
+            Message::Finalization(block) => self.quorum_sealed(Share::Finalization(block)),
         }
     }
 

@@ -1,5 +1,5 @@
 //! The calls of honest seats.
-ghost use Rattle.std.specs.Prelude.{◌≡◌, ℕ, ◌≤◌, []};
+ghost use Rattle.std.specs.Prelude.{◌≡◌, ◌≤◌, []};
 ghost use Rattle.model.specs.Setup.{round_of};
 ghost use Rattle.model.specs.Checks.Call.{tick as Tick, enter as Enter, propose as Propose, echo as Echo, finish as Finish, commit as Commit};
 ghost use Rattle.plans.specs.Planned.{model};

@@ -1,5 +1,5 @@
 //! The opening of a hall.
-ghost use Rattle.std.specs.Prelude.{◌≡◌, ℕ, ◌<◌, if◌then◌else◌};
+ghost use Rattle.std.specs.Prelude.{◌≡◌, ◌<◌, if◌then◌else◌};
 ghost use Rattle.model.specs.Setup.{honest};
 ghost use Rattle.plans.specs.Planned.{model};
 ghost use Rattle.hall.specs.Worlds.{world};

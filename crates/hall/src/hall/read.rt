@@ -1,23 +1,14 @@
 //! What can be read of a hall.
-ghost use Rattle.std.specs.Prelude.{◌≡◌, ℕ, ◌≤◌, true, false, ◌&&◌, MatchOption, nat_lt, slice_index_or};
+ghost use Rattle.std.specs.Prelude.{◌≡◌, ◌≤◌, true, false, ◌&&◌, MatchOption, nat_lt};
 ghost use Rattle.model.specs.Setup.{honest};
 ghost use Rattle.plans.specs.Planned.{model};
-ghost use Rattle.seats.specs.Seated.{seated};
 ghost use Rattle.seats.specs.Standings.{Stands};
-ghost use Rattle.hall.specs.Worlds.{no_seat, world};
+ghost use Rattle.hall.specs.Worlds.{world};
 
 use super::Hall;
 use super::admit::Sort;
-use basics::numbers::SeatIndex;
 use seals::book::{SealBook, SealView};
-use seats::seat::{Seat, Standing};
-
-// how one of the seats stands
-fn standing_in(seats: &[Seat; 13], index: SeatIndex) -> Standing<'_>
-    ensures { Stands result (seated (slice_index_or seats.now index.value no_seat)) }
-{
-    seats[index.value() as usize].standing()
-}
+use seats::seat::Standing;
 
 impl<B: SealBook> Hall<B> {
     /// How many seats there are.
@@ -35,6 +26,6 @@ impl<B: SealBook> Hall<B> {
             (λ x. ((nat_lt seat (model self.now.plan).n && honest (model self.now.plan) seat) ≡ true) × Stands x ((world B.SealView.held self.now).seat seat)) }
     {
         let index = self.seat_of(Sort::Honest, seat).ok()?;
-        Some(standing_in(&self.seats, index))
+        Some(self.seats[index.value() as usize].standing())
     }
 }

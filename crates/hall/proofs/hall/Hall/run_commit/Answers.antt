@@ -1,7 +1,5 @@
-use Rattle.std.proofs.Common.{◌≡◌, ℕ, ◌<◌, false, length, get_or, sym, refl, ap, ◌∙◌, subst, rules}
-use borrow.Author.Rules.{get_or_read}
+use Rattle.std.proofs.Common.{◌<◌, false, length, refl, ap, ◌∙◌, subst, rules}
 use Rattle.model.specs.Checks.Call.{commit}
-use Rattle.model.specs.Effects.{seals, seat_after}
 use Rattle.messages.specs.Stored.{stored}
 use Rattle.plans.specs.Planned.{model}
 use Rattle.seats.specs.declared.seat.Seat.{Seat}
@@ -9,9 +7,9 @@ use Rattle.seats.specs.Seated.{seated, pooled}
 use Rattle.seats.specs.Faults.{told}
 use Rattle.seats.specs.Sent.{sent}
 use Rattle.seats.specs.Desk.{bare_desk, accepts, Rule}
-use Rattle.hall.specs.Worlds.{world, no_seat}
-use Rattle.hall.proofs.Updates.{written, settled, cond_same}
+use Rattle.hall.specs.Worlds.{world}
 use Rattle.hall.proofs.Updates.{no_seals}
+use Rattle.hall.proofs.Rules.{lent, makes_none, ran}
 use Rattle.hall.proofs.hall.Hall.run_commit.Goals as goal
 
 pub returns : goal.returns
@@ -19,25 +17,14 @@ returns g c =
     let h = c.args.self.now in
     let held = g.B.SealView.held in
     let p = model h.plan in
-    let w = world held h in
     let s = c.args.who.value in
     let b = c.args.block.value in
-    let i = c.value.result in
     let x' = c.commit.new.self in
-    let out = c.commit.result in
+    let i = c.value.result in
     let same = c.value.ensures.same in
-    let long : i < length h.seats = search rules in
-    let here : get_or h.seats i c.index-seats-value.result ≡ get_or h.seats s no_seat =
-    sym c.index-seats-value.is ∙ get_or_read h.seats i c.index-seats-value.result long c.index-seats-value.is no_seat ∙ ap (λ (k : ℕ). get_or h.seats k no_seat) same in
-    let rule = subst (λ (x : Seat). Rule 3 p (bare_desk h.tree x) (commit s b) (told s b out) (sent out) (seated x') (λ _ _ _. false)) here (c.commit.ensures.within c.requires) in
-    let go = accepts 3 p w (commit s b) in
-    record {
-      plan_stays = refl;
-      judged = rule.judged;
-      sends = rule.sends;
-      left = ap (written w.made w.parent w.places w.sealed w.posted h.seats w.made w.parent w.places w.sealed x') same
-          ∙ settled w.made w.parent w.places w.sealed w.posted h.seats go s x' (seat_after p w (commit s b)) (seals p w (commit s b))
-          w.made w.made w.parent w.parent w.places w.places w.sealed
-          (subst (λ (k : ℕ). k < length h.seats) same long) (ap stored c.commit.ensures.pool ∙ ap pooled here) rule.moves (no_seals go w.sealed)
-          (cond_same go w.made) (cond_same go w.parent) (cond_same go w.places);
-    }
+    let low : i < length h.seats = search rules in
+    let here = lent h.seats i s c.index-seats-value.result low c.index-seats-value.is same in
+    let rule = subst (λ (x : Seat). Rule 3 p (bare_desk h.tree x) (commit s b) (told s b c.commit.result) (sent c.commit.result) (seated x') (λ _ _ _. false)) here (c.commit.ensures.within c.requires) in
+    let unsealed = no_seals (accepts 3 p (world held h) (commit s b)) (held h.book) in
+    ran held h 3 (commit s b) i x' h.tree h.book _ _ low same (ap stored c.commit.ensures.pool ∙ ap pooled here)
+    (record { judged = rule.judged; sends = rule.sends; moves = rule.moves; seals_given = unsealed }) (makes_none held h 3 (commit s b) refl)
