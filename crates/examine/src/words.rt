@@ -133,27 +133,22 @@ impl fmt::Display for Standing<'_> {
 impl fmt::Display for Line<'_> {
     fn fmt<W: fmt::Write>(&self, f: &mut fmt::Formatter<W>) -> fmt::Result {
         match self {
-            Line::Refused(
-                Refusal {
-                    line,
-                    number,
-                    layer,
-                    seat,
-                    subject,
-                },
-            ) => write!(
+            Line::Refused(refusal) => write!(
                 f,
-                "line {line}: refused, {number} (layer {layer}, seat {seat}, subject {subject}): {}",
-                meaning(*number)
+                "line {}: refused, {} (layer {}, seat {}, subject {}): {}",
+                refusal.line,
+                refusal.number,
+                refusal.layer,
+                refusal.seat,
+                refusal.subject,
+                meaning(refusal.number)
             ),
             Line::Stands(standing) => write!(f, "{standing}"),
-            Line::Counted(
-                Counts {
-                    calls,
-                    accepted,
-                    refused,
-                },
-            ) => write!(f, "{calls} calls, {accepted} accepted, {refused} refused"),
+            Line::Counted(counts) => write!(
+                f,
+                "{} calls, {} accepted, {} refused",
+                counts.calls, counts.accepted, counts.refused
+            ),
         }
     }
 }
