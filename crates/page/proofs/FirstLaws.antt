@@ -9,9 +9,9 @@ use Rattle.draws.specs.declared.fault.DrawFault.TheVariants.{Sizes}
 use Rattle.plans.specs.Setup.{fresh_plan, can_be_corrupt, with_corrupt}
 use Rattle.plans.specs.declared.fault.PlanFault.{PlanFault}
 use Rattle.plans.specs.declared.fault.PlanFault.TheVariants.{Draw, TooFewSeats, LongDelay}
+use Rattle.frames.specs.declared.frame.Setup.{Setup}
 use Rattle.page.specs.First.{marked_answer, marked, unless_refused, named, then_named, plan_with, first_plan}
 use Rattle.page.specs.Ranks.{with_ranks, with_table, meant, by_draw, table_plan}
-use Rattle.page.specs.declared.types.Setup.{Setup}
 
 module _ (corrupt s : ℕ) (p : Model) where
   pub seat_step : s < 16 → named corrupt (16 - s) s p ≡ unless_refused (marked_answer corrupt s p) (named corrupt (16 - (s + 1)) (s + 1) (marked corrupt s p))

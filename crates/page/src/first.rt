@@ -1,5 +1,5 @@
 //! The first line.
-ghost use Rattle.std.specs.Prelude.{◌≡◌, ℕ, ◌≤◌, Ok, MatchResult};
+ghost use Rattle.std.specs.Prelude.{◌≡◌, Ok, IfOk};
 ghost use Rattle.plans.specs.Planned.{model};
 ghost use Rattle.plans.specs.Setup.{modelled};
 ghost use Rattle.frames.specs.Shape.{shape};
@@ -7,11 +7,11 @@ ghost use Rattle.page.specs.First.{marked_answer, marked, plan_with, first_plan,
 ghost use Rattle.page.specs.Setups.{started};
 
 use crate::fault::PageFault;
-use crate::types::{Setup, Start};
+use crate::types::Start;
 use basics::mask::has;
 use draws::draw::Draw;
 use draws::rotation::Rotation;
-use frames::frame::Frame;
+use frames::frame::{Frame, Setup};
 use plans::fault::PlanFault;
 use plans::plan::Plan;
 
@@ -46,28 +46,12 @@ fn first_plan(setup: Setup) -> Result<Plan, PlanFault>
 }
 
 /// Judges the first line.
-pub(crate) fn judge(frame: Frame) -> Result<Start, PageFault>
+pub(crate) fn judge(frame: Option<Frame>) -> Result<Start, PageFault>
     ensures value { started result ≡ judged (shape frame.entry) }
-    ensures setup { MatchResult result (λ x. first_plan x.setup ≡ Ok (model x.plan)) (λ _. 0 ≤ 0) }
+    ensures setup { IfOk result (λ x. first_plan x.setup ≡ Ok (model x.plan)) }
 {
-    let Frame::Opening {
-        n,
-        t,
-        rounds,
-        d,
-        e,
-        corrupt,
-    } = frame
-    else {
+    let Some(Frame::Opening(setup)) = frame else {
         return Err(PageFault::Malformed);
-    };
-    let setup = Setup {
-        n,
-        t,
-        rounds,
-        d,
-        e,
-        corrupt,
     };
     let plan = first_plan(setup)?;
     Ok(Start { setup, plan })

@@ -26,11 +26,11 @@ use plans::plan::Plan;
 use records::refusal::Refusal;
 
 /// The ranks of a rank line: none of any other.
-fn row<'a>(frame: Frame<'a>) -> &'a [u8]
+fn row<'a>(frame: Option<Frame<'a>>) -> &'a [u8]
     ensures { result.now ≡ row_of (shape frame.entry) }
 {
     match frame {
-        Frame::Ranks { ranks } => ranks,
+        Some(Frame::Ranks(ranks)) => ranks,
         _ => &[],
     }
 }

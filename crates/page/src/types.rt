@@ -7,22 +7,13 @@ use entries::entry::Entry;
 use entries::slip::Slip;
 use plans::plan::Plan;
 
+pub use frames::frame::Setup;
+
 /// The two sorts of hall: one takes cards and rotates its ranks, the other takes slips and is told its ranks.
 #[derive(Clone, Copy)]
 pub enum Sort {
     Cards,
     Slips,
-}
-
-/// What the first line fixes: seats, how many may be corrupt, rounds, the two numbers of the delays, and the corrupt seats by their bits.
-#[derive(Clone, Copy)]
-pub struct Setup {
-    pub n: u8,
-    pub t: u8,
-    pub rounds: u8,
-    pub d: u16,
-    pub e: u16,
-    pub corrupt: u16,
 }
 
 /// The first line and the plan that it makes, with the ranks of the rotation.
