@@ -6,7 +6,7 @@ use Rattle.draws.specs.Made.{in_bounds, table_made}
 use Rattle.draws.specs.Ranks.{table_rank}
 use Rattle.draws.specs.Rotated.{rotated}
 use Rattle.draws.specs.declared.fault.DrawFault.TheVariants.{Sizes}
-use Rattle.plans.specs.Setup.{fresh_plan, can_be_corrupt, with_corrupt}
+use Rattle.plans.specs.Setup.{fresh_plan, can_be_corrupt, named_corrupt, with_corrupt}
 use Rattle.plans.specs.declared.fault.PlanFault.{PlanFault}
 use Rattle.plans.specs.declared.fault.PlanFault.TheVariants.{Draw, TooFewSeats, LongDelay}
 use Rattle.frames.specs.declared.frame.Setup.{Setup}
@@ -14,9 +14,17 @@ use Rattle.page.specs.First.{marked_answer, marked, unless_refused, named, then_
 use Rattle.page.specs.Ranks.{with_ranks, with_table, meant, by_draw, table_plan}
 
 module _ (corrupt s : ℕ) (p : Model) where
-  pub seat_step : s < 16 → named corrupt (16 - s) s p ≡ unless_refused (marked_answer corrupt s p) (named corrupt (16 - (s + 1)) (s + 1) (marked corrupt s p))
+  seat_step : s < 16 → named corrupt (16 - s) s p ≡ unless_refused (marked_answer corrupt s p) (named corrupt (16 - (s + 1)) (s + 1) (marked corrupt s p))
   unfolding named
   seat_step h = let e : 16 - s ≡ suc (16 - (s + 1)) = omega arith in ap (λ k. named corrupt k s p) e
+
+  -- a seat whose bit is not set is passed over
+  pub seat_passed : s < 16 → bit corrupt s ≡ false → named corrupt (16 - s) s p ≡ named corrupt (16 - (s + 1)) (s + 1) p
+  seat_passed h e = rw e at (seat_step h)
+
+  -- a seat whose bit is set is named corrupt, or refused
+  pub seat_named : s < 16 → bit corrupt s ≡ true → named corrupt (16 - s) s p ≡ unless_refused (named_corrupt p s) (named corrupt (16 - (s + 1)) (s + 1) (cond (can_be_corrupt p s) (with_corrupt s p) p))
+  seat_named h e = rw e at (seat_step h)
 
   pub seat_end : 16 ≤ s → named corrupt (16 - s) s p ≡ Ok p
   unfolding named

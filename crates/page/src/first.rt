@@ -3,7 +3,7 @@ ghost use Rattle.std.specs.Prelude.{◌≡◌, Ok, IfOk};
 ghost use Rattle.plans.specs.Planned.{model};
 ghost use Rattle.plans.specs.Setup.{modelled};
 ghost use Rattle.frames.specs.Shape.{shape};
-ghost use Rattle.page.specs.First.{marked_answer, marked, plan_with, first_plan, judged};
+ghost use Rattle.page.specs.First.{plan_with, first_plan, judged};
 ghost use Rattle.page.specs.Setups.{started};
 
 use crate::fault::PageFault;
@@ -15,24 +15,15 @@ use frames::frame::{Frame, Setup};
 use plans::fault::PlanFault;
 use plans::plan::Plan;
 
-/// Names a seat corrupt if its bit is set.
-fn name_marked(plan: &mut Plan, corrupt: u16, seat: u8) -> Result<(), PlanFault>
-    ensures answer { result ≡ marked_answer corrupt seat (model plan.old) }
-    ensures plan { model plan.new ≡ marked corrupt seat (model plan.old) }
-{
-    if !has(corrupt, seat) {
-        return Ok(());
-    }
-    plan.name_corrupt(seat)
-}
-
 /// The plan of a draw with what the first line says: the seats whose bits are set are named corrupt, from seat 0 up.
 pub(crate) fn plan_with<D: Draw>(draw: &D, setup: Setup) -> Result<Plan, PlanFault>
     ensures { modelled result ≡ plan_with (D.Draw.seats draw.now) (D.Draw.rounds draw.now) (D.Draw.rank draw.now) setup }
 {
     let mut plan = Plan::new(draw, setup.t, setup.d, setup.e)?;
     for seat in 0..16u8 {
-        name_marked(&mut plan, setup.corrupt, seat)?;
+        if has(setup.corrupt, seat) {
+            plan.name_corrupt(seat)?;
+        }
     }
     Ok(plan)
 }
