@@ -1,5 +1,5 @@
 -- The calls of a run are a complete journal.
-use Rattle.std.proofs.Common.{◌≡◌, ℕ, Option, Some, None, List, [], ◌∷◌, ◌++◌, sym, refl, subst, append_assoc, append-nil}
+use Rattle.std.proofs.Common.{◌≡◌, ℕ, Option, Some, List, [], ◌∷◌, ◌++◌, sym, refl, subst, append_assoc, append-nil}
 use Rattle.model.specs.Setup.{Plan}
 use Rattle.model.specs.World.{World}
 use Rattle.model.specs.Checks.{verdict}

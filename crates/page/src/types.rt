@@ -1,16 +1,16 @@
 //! What a run is told.
-ghost use Rattle.page.specs.Alike.{entries_alike};
-ghost use Rattle.std.proofs.Common.{rules};
+ghost use Rattle.std.specs.Prelude.{◌≡◌, Ok};
+ghost use Rattle.plans.specs.Planned.{model};
+ghost use Rattle.page.specs.First.{first_plan};
 
 use entries::card::Card;
 use entries::entry::Entry;
 use entries::slip::Slip;
+pub use frames::frame::Setup;
 use plans::plan::Plan;
 
-pub use frames::frame::Setup;
-
 /// The two sorts of hall: one takes cards and rotates its ranks, the other takes slips and is told its ranks.
-#[derive(Clone, Copy)]
+#[derive(Clone, Copy, PartialEq, Eq, Debug)]
 pub enum Sort {
     Cards,
     Slips,
@@ -21,6 +21,7 @@ pub enum Sort {
 pub struct Start {
     pub setup: Setup,
     pub plan: Plan,
+    ghost made: { first_plan setup ≡ Ok (model plan) },
 }
 
 /// An entry of the table, of either sort of hall.
@@ -39,6 +40,9 @@ pub enum Place {
 }
 
 impl Entry for PageEntry {
+    ghost use Rattle.page.specs.Alike.{entries_alike};
+    ghost use Rattle.std.proofs.Common.{rules};
+
     ghost alike = { entries_alike };
 
     ghost same = { Prim.search rules };

@@ -1,7 +1,7 @@
 -- One seat more is passed over, named, or refused.
 use Rattle.std.proofs.Common.{◌≡◌, ◌+◌, ◌-◌, Err, sym, ap, ◌∙◌, arith, rules}
 use Rattle.plans.specs.Planned.{model}
-use Rattle.page.specs.First.{named, then_named, plan_with}
+use Rattle.page.specs.First.{named, plan_with}
 use Rattle.page.proofs.FirstLaws.{seat_passed, seat_named, seat_end}
 use Rattle.page.proofs.first.plan_with.Goals.{then-has+in_ok-name_corrupt, else-has}
 use Rattle.page.proofs.first.plan_with.Goals as goal
@@ -24,9 +24,9 @@ loop-seat-preserved g c =
     let later = named x (16 - (s + 1)) (s + 1) in
     elim c.if-has.branch [
       | then-has+in_ok-name_corrupt w ↦
-        let marked = seat_named x s p (omega arith) (cc) in
-        rw (← w.name_corrupt.ensures.answer, w.in_ok-name_corrupt.was) at (c.loop-seat.invariant ∙ marked)
-        ∙ ap later (sym w.name_corrupt.ensures.plan ∙ ap model (sym w.plan-is))
+          let marked = seat_named x s p (omega arith) (cc) in
+          rw (← w.name_corrupt.ensures.answer, w.in_ok-name_corrupt.was) at (c.loop-seat.invariant ∙ marked)
+          ∙ ap later (sym w.name_corrupt.ensures.plan ∙ ap model (sym w.plan-is))
       | else-has w ↦ c.loop-seat.invariant ∙ seat_passed x s p (omega arith) (cc) ∙ ap later (ap model (sym w.plan-is))
     ]
 
