@@ -107,15 +107,15 @@ module _ (u : Setup) (p : Model) (table : List ℕ) where
     where
       by : (a b : Bool) → then_named u.corrupt (cond a (cond b (Ok (fresh_plan n R rank u.t u.d u.e)) (Err LongDelay)) (Err TooFewSeats)) ≡ Ok p → (p.n ≡ n) × (p.rounds ≡ R)
       by true true g = subst (SameSizes (fresh_plan n R rank u.t u.d u.e)) g (named_sizes u.corrupt 16 0 (fresh_plan n R rank u.t u.d u.e))
-      by true false g = no_refusal LongDelay p g
-      by false b g = no_refusal TooFewSeats p g
+      by true false g = cc
+      by false b g = cc
 
   first_made : first_plan u ≡ Ok p → plan_with u.n u.rounds (rotated u.n) u ≡ Ok p
   first_made e = by (in_bounds u.n u.rounds) e
     where
       by : (b : Bool) → cond b (plan_with u.n u.rounds (rotated u.n) u) (Err (Draw Sizes)) ≡ Ok p → plan_with u.n u.rounds (rotated u.n) u ≡ Ok p
       by true g = g
-      by false g = no_refusal (Draw Sizes) p g
+      by false g = cc
 
   pub table_plan_is : first_plan u ≡ Ok p → table_made p.n p.rounds table ≡ Ok (meant p.n p.rounds table) → table_plan u table ≡ Ok (with_table table p)
   table_plan_is e t =
