@@ -6,7 +6,7 @@ ghost use Rattle.model.specs.Checks.{caller};
 ghost use Rattle.calls.specs.Asked.{asked, named_subject};
 
 /// A call, with what it is given: places are those of a block's payload.
-#[derive(Drop)]
+#[derive(Clone, Copy, PartialEq, Eq, Debug)]
 pub enum Call<'a> {
     /// Sets a seat's clock.
     Tick {
@@ -66,15 +66,15 @@ impl<'a> Call<'a> {
         ensures { result ≡ caller (asked self.now) }
     {
         match self {
-            Call::Tick { seat, .. } => *seat,
-            Call::Enter { seat } => *seat,
-            Call::Propose { seat, .. } => *seat,
-            Call::Echo { seat, .. } => *seat,
-            Call::Finish { seat, .. } => *seat,
-            Call::Commit { seat, .. } => *seat,
-            Call::Deliver { seat, .. } => *seat,
-            Call::Forge { seat, .. } => *seat,
-            Call::Seal { seat, .. } => *seat,
+            Call::Tick { seat, .. }
+            | Call::Enter { seat }
+            | Call::Propose { seat, .. }
+            | Call::Echo { seat, .. }
+            | Call::Finish { seat, .. }
+            | Call::Commit { seat, .. }
+            | Call::Deliver { seat, .. }
+            | Call::Forge { seat, .. }
+            | Call::Seal { seat, .. } => *seat,
         }
     }
 
@@ -83,15 +83,12 @@ impl<'a> Call<'a> {
         ensures { result ≡ named_subject (asked self.now) }
     {
         match self {
-            Call::Tick { .. } => 0,
-            Call::Enter { .. } => 0,
-            Call::Propose { parent, .. } => *parent,
-            Call::Echo { block, .. } => *block,
-            Call::Finish { block, .. } => *block,
-            Call::Commit { block, .. } => *block,
-            Call::Deliver { subject, .. } => *subject,
-            Call::Forge { parent, .. } => *parent,
-            Call::Seal { subject, .. } => *subject,
+            Call::Tick { .. } | Call::Enter { .. } => 0,
+            Call::Propose { parent, .. } | Call::Forge { parent, .. } => *parent,
+            Call::Echo { block, .. } | Call::Finish { block, .. } | Call::Commit { block, .. } => {
+                *block
+            }
+            Call::Deliver { subject, .. } | Call::Seal { subject, .. } => *subject,
         }
     }
 }
