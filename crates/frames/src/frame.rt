@@ -15,7 +15,7 @@ pub struct Setup {
 }
 
 /// What the bytes of a line say.
-#[derive(Drop)]
+#[derive(Clone, Copy, PartialEq, Eq, Debug)]
 pub enum Frame<'a> {
     /// What a hall is set up with.
     Opening(Setup),

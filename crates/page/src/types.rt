@@ -25,14 +25,14 @@ pub struct Start {
 }
 
 /// An entry of the table, of either sort of hall.
-#[derive(Clone, Copy)]
+#[derive(Clone, Copy, PartialEq, Eq, Debug)]
 pub enum PageEntry {
     Card(Card),
     Slip(Slip),
 }
 
 /// What a line is in the place of an entry line.
-#[derive(Clone, Copy)]
+#[derive(Clone, Copy, PartialEq, Eq, Debug)]
 pub enum Place {
     Entry(PageEntry),
     Closes,
