@@ -53,11 +53,13 @@ fn decode_block_call(bytes: &[u8]) -> Option<Frame<'_>>
     ensures { shape result ≡ block_frame bytes.now }
 {
     match bytes {
-        [0x12, seat, hi, lo, places @ ..] if places.len() <= 8 => Some(Frame::Call(Call::Propose {
-            seat: *seat,
-            parent: u16::from_be_bytes([*hi, *lo]),
-            places,
-        })),
+        [0x12, seat, hi, lo, places @ ..] if places.len() <= 8 => Some(Frame::Call(
+            Call::Propose {
+                seat: *seat,
+                parent: u16::from_be_bytes([*hi, *lo]),
+                places,
+            },
+        )),
         [0x13, seat, hi, lo] => Some(Frame::Call(Call::Echo {
             seat: *seat,
             block: u16::from_be_bytes([*hi, *lo]),
