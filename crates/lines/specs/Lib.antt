@@ -2,3 +2,5 @@
 pub mod Lines
 pub mod Output
 pub mod Reading
+pub mod Short
+pub mod Writing

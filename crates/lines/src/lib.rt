@@ -1,6 +1,8 @@
 //! Lines of hexadecimal: a reader of the bytes of each, and a writer of one.
 #![tactic(auto)]
 
-mod hex;
+pub mod hex;
+pub mod line;
 pub mod output;
 pub mod reader;
+mod short;
