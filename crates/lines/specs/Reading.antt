@@ -1,7 +1,7 @@
 -- What a reader has read, and what is left.
 use Rattle.std.specs.Prelude.{◌≡◌, ℕ, ◌+◌, ◌≤◌, List, [], ◌∷◌, length, Option, Some, None, IfSome}
 use Rattle.lines.specs.Lines.{lines}
-use Rattle.lines.specs.Short.{contents}
+use Rattle.basics.specs.Elements.{elements}
 use Rattle.lines.specs.declared.line.Line.{Line}
 use Rattle.lines.specs.declared.reader.Reader.{Reader}
 
@@ -11,7 +11,7 @@ line_number l = l.number
 
 -- the bytes of a line: none where it is malformed
 abbrev pub held : Line → List ℕ
-held l = contents l.bytes
+held l = elements l.bytes
 
 -- the text behind the lines that were read
 abbrev pub left : Reader → List ℕ

@@ -5,4 +5,3 @@ pub mod hex;
 pub mod line;
 pub mod output;
 pub mod reader;
-mod short;

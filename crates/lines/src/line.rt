@@ -1,13 +1,13 @@
 //! A line of a text, as it was read.
 ghost use Rattle.std.specs.Prelude.{◌≡◌, ◌≤◌};
 
-use crate::short::ShortList;
+use basics::inline_list::InlineList;
 
 /// A line: its number, from 1, and its bytes, none where it is malformed.
 #[derive(Clone, Copy)]
 pub struct Line {
     pub(crate) number: u16,
-    pub(crate) bytes: ShortList,
+    pub(crate) bytes: InlineList<u8, 16>,
     ghost counted: { 1 ≤ number },
 }
 

@@ -1,11 +1,11 @@
 //! A text that is read line by line.
 ghost use Rattle.std.specs.Prelude.{◌≡◌, ℕ, ◌+◌, ◌*◌, ◌<◌, ◌≤◌, ◌∷◌, length, take, drop, ◌==◌, position};
 ghost use Rattle.lines.specs.Lines.{lines, leading_bytes, later};
-ghost use Rattle.lines.specs.Short.{contents};
+ghost use Rattle.basics.specs.Elements.{elements};
 
 use crate::hex::pair;
 use crate::line::Line;
-use crate::short::ShortList;
+use basics::inline_list::InlineList;
 
 /// What is left of a text, and the number of lines before it.
 #[derive(Drop)]
@@ -16,11 +16,11 @@ pub struct Reader<'a> {
 }
 
 /// The bytes of the pairs of digits that a text begins with, at most 16, and the text behind them.
-fn read_pairs(text: &[u8]) -> (ShortList, &[u8])
-    ensures bytes { contents result.0 ≡ leading_bytes 16 text.now }
+fn read_pairs(text: &[u8]) -> (InlineList<u8, 16>, &[u8])
+    ensures bytes { elements result.0 ≡ leading_bytes 16 text.now }
     ensures behind { result.1.now ≡ drop (2 * length (leading_bytes 16 text.now)) text.now }
 {
-    let mut bytes = ShortList::new();
+    let mut bytes = InlineList::empty();
     let mut behind = text;
     while bytes.len() < 16
         && let [x, y, rest @ ..] = behind
@@ -50,16 +50,16 @@ fn behind_feed(text: &[u8]) -> &[u8]
 }
 
 /// The bytes of the first line of a text, none where it is malformed, and the text behind it.
-fn read_line(text: &[u8]) -> (ShortList, &[u8])
+fn read_line(text: &[u8]) -> (InlineList<u8, 16>, &[u8])
     requires { 0 < length text.now }
-    ensures line { lines text.now ≡ contents result.0 ∷ lines result.1.now }
+    ensures line { lines text.now ≡ elements result.0 ∷ lines result.1.now }
     ensures shorter { length result.1.now < length text.now }
 {
     let (bytes, rest) = read_pairs(text);
     if let [b'\n', behind @ ..] = rest {
         return (bytes, behind);
     }
-    (ShortList::new(), behind_feed(rest))
+    (InlineList::empty(), behind_feed(rest))
 }
 
 impl<'a> Reader<'a> {

@@ -2,7 +2,7 @@
 use Rattle.std.proofs.Common.{rules, ◌≡◌, ◌+◌, ◌-◌, ◌*◌, ◌≤◌, ◌<◌, [], ◌∷◌, length, get_or, take, drop, sym, ap, ◌∙◌, ◌≢◌, arith, length-drop}
 use Rattle.std.proofs.lemmas.List.{take_all}
 use Rattle.lines.specs.Lines.{lines, later, leading_bytes}
-use Rattle.lines.specs.Short.{contents}
+use Rattle.basics.specs.Elements.{elements}
 use Rattle.lines.proofs.LineLaws.{later_shorter, feed_inside}
 use Rattle.lines.proofs.PairLaws.{line_read, line_lost}
 use Rattle.lines.proofs.reader.read_line.Goals.{then-rest-lt1, else-rest-lt1+in_default-1}
@@ -12,7 +12,7 @@ pub returns-in-10-clause-line : goal.returns-in-10-clause-line
 returns-in-10-clause-line c =
     let text = c.args.text.now in
     let rest = c.read_pairs.result.1.now in
-    let bs = contents c.read_pairs.result.0 in
+    let bs = elements c.read_pairs.result.0 in
     let is : rest ≡ drop (2 * length (leading_bytes 16 text)) text = c.read_pairs.ensures.behind in
     let feed : get_or rest 0 0 ≡ 10 = search rules in
     line_read text rest c.requires is feed
@@ -30,8 +30,8 @@ returns-clause-line c =
       | else-rest-lt1+in_default-1 w ↦ search rules
     ] in
     line_lost text rest c.requires is feed
-    ∙ ap (λ l. l ∷ lines (later rest)) (sym c.new.ensures)
-    ∙ ap (λ r. contents c.new.result ∷ lines r) (sym c.behind_feed.ensures)
+    ∙ ap (λ l. l ∷ lines (later rest)) (sym c.empty.ensures)
+    ∙ ap (λ r. elements c.empty.result ∷ lines r) (sym c.behind_feed.ensures)
 
 pub returns-clause-shorter : goal.returns-clause-shorter
 returns-clause-shorter c =
