@@ -7,7 +7,7 @@ ghost use Rattle.messages.specs.Rows.{row};
 ghost use Rattle.messages.specs.Stored.{stored, joined, nothing};
 
 use crate::message::{Message, Share};
-use basics::mask;
+use basics::mask::{self, Mask};
 
 /// A set of messages: a row for each kind and subject, and in it a bit for each signer.
 #[derive(Clone, Copy)]
@@ -66,7 +66,7 @@ impl MessageSet {
     pub fn contains(&self, m: Message) -> bool
         ensures { result ≡ stored self.now (means m) }
     {
-        mask::has(self.rows[message_row(m)], message_bit(m))
+        self.rows[message_row(m)].has(message_bit(m))
     }
 
     /// Adds the message.
@@ -75,7 +75,7 @@ impl MessageSet {
     {
         let at = message_row(m);
         let old = self.rows[at];
-        self.rows[at] = mask::with(old, message_bit(m));
+        self.rows[at] = old.with(message_bit(m));
     }
 
     /// How many of the seats below n have signed the share, as far as the set knows.

@@ -8,7 +8,7 @@ ghost use Rattle.page.specs.Setups.{started};
 
 use crate::fault::PageFault;
 use crate::types::Start;
-use basics::mask::has;
+use basics::mask::Mask;
 use draws::draw::Draw;
 use draws::rotation::Rotation;
 use frames::frame::{Frame, Setup};
@@ -21,7 +21,7 @@ pub(crate) fn plan_with<D: Draw>(draw: &D, setup: Setup) -> Result<Plan, PlanFau
 {
     let mut plan = Plan::new(draw, setup.t, setup.d, setup.e)?;
     for seat in 0..16u8 {
-        if has(setup.corrupt, seat) {
+        if setup.corrupt.has(seat) {
             plan.name_corrupt(seat)?;
         }
     }

@@ -5,7 +5,7 @@ ghost use Rattle.seals.specs.Seals.{allowed};
 ghost use Rattle.seals.specs.Listed.{is, listed};
 
 use crate::record::SealRecord;
-use basics::mask;
+use basics::mask::Mask;
 
 /// Whether there can be such a seal.
 pub(super) fn allows(kind: u8, seat: u8, subject: u16) -> bool
@@ -37,7 +37,7 @@ fn joined(m: u16, x: SealRecord, kind: u8, subject: u16) -> u16
     ensures { (s : ℕ) → s < 13 → bit result s ≡ (bit m s || is x kind s subject) }
 {
     if x.is_of(kind, x.seat, subject) {
-        return mask::with(m, x.seat);
+        return m.with(x.seat);
     }
     m
 }

@@ -6,7 +6,7 @@ ghost use Rattle.seals.specs.Rows.{row_at, row_holds, row_inside};
 use super::RowBook;
 use crate::book::{BookUser, SealBook, SealView};
 use crate::fault::SealFault;
-use basics::mask;
+use basics::mask::{self, Mask};
 
 /// How many masks a book has.
 const ROWS: usize = 632;
@@ -57,7 +57,7 @@ impl<'a> SealView for RowBook<'a> {
         if at >= ROWS || seat >= 13 {
             return false;
         }
-        mask::has(self.masks[at], seat)
+        self.masks[at].has(seat)
     }
 
     fn count(&self, kind: u8, subject: u16) -> u8 {
@@ -82,10 +82,10 @@ impl<'a> SealBook for RowBook<'a> {
             return false;
         }
         let old = self.masks[at];
-        if mask::has(old, seat) {
+        if old.has(seat) {
             return false;
         }
-        self.masks[at] = mask::with(old, seat);
+        self.masks[at] = old.with(seat);
         true
     }
 }
