@@ -3,7 +3,7 @@ use Rattle.std.proofs.Common.{◌≡◌, ℕ, ◌*◌, ◌/◌, ◌%◌, ◌^◌
 use Rattle.std.specs.Int.{Width, bit_at, bit_not, trailing_zeros}
 use mir.Val.{bits}
 use lib.Bits.{bit_or, bit_and, and_le_l}
-use Rattle.std.proofs.lemmas.Bool.{cases_eq, cases_lt, eq-eqb, ne_eqb, lt-ltb, le-ltb, cond-true, cond-false, and_from, both_ways, and_parts}
+use Rattle.std.proofs.lemmas.Bool.{cases_eq, cases_lt, eq-eqb, ne_eqb, le-ltb, and_from, both_ways, and_parts}
 use Rattle.std.proofs.lemmas.Bool.Decides.{nat_tests}
 use Rattle.std.proofs.lemmas.Nat.Bits.{shr_and_one, bit_at-zero, bit_at_above, bit_at_and, bit_at-lt, bit_at_set_same, bit_at_set_other, bit_at_clear_same, bit_at_clear_other, bit_at-trailing_zeros}
 use Rattle.basics.specs.Bit.{bit, Meets}
@@ -15,17 +15,17 @@ same_set h = λ i k. h k i
 
 -- what stands at the changed number, and what at another
 pub put_here : {A : Type 0} (i : ℕ) (v : A) (f : ℕ → A) (k : ℕ) → i ≡ k → put i v f k ≡ v
-put_here i v f k e = cond-true (eqb i k) _ _ (eq-eqb i k e)
+put_here i v f k e = grind (arith, nat_tests)
 
 pub put_there : {A : Type 0} (i : ℕ) (v : A) (f : ℕ → A) (k : ℕ) → (i ≡ k → ⊥) → put i v f k ≡ f k
-put_there i v f k ne = cond-false (eqb i k) _ _ (ne_eqb i k ne)
+put_there i v f k ne = grind (arith, nat_tests)
 
 -- a number below the width is changed, and none past it
 pub put_inside : {A : Type 0} (w i : ℕ) (v : A) (f : ℕ → A) → i < w → put_below w i v f ≡ put i v f
-put_inside w i v f h = same_set (λ k. cond-true (ltb i w) _ _ (lt-ltb i w h))
+put_inside w i v f h = same_set (λ k. grind (arith, nat_tests))
 
 pub put_outside : {A : Type 0} (w i : ℕ) (v : A) (f : ℕ → A) → w ≤ i → put_below w i v f ≡ f
-put_outside w i v f h = same_set (λ k. cond-false (ltb i w) _ _ (le-ltb i w h))
+put_outside w i v f h = same_set (λ k. grind (arith, nat_tests))
 
 -- the empty set
 pub bit_none : (i : ℕ) → bit 0 i ≡ false
@@ -48,11 +48,7 @@ bit_read m i = ap (λ x. eqb x 1) (shr_and_one m i)
 
 with_at : (w : Width) (m i k : ℕ) → i < bits w → bit (bit_or m ((1 * 2 ^ i) % 2 ^ bits w)) k ≡ put i true (bit m) k
 unfolding bit
-with_at w m i k h =
-    ⊎_elim
-    (λ (e : i ≡ k). ap (λ x. eqb x 1) (subst (λ j. bit_at (bit_or m ((1 * 2 ^ i) % 2 ^ bits w)) j ≡ 1) e (bit_at_set_same w m i h)) ∙ sym (put_here i true (bit m) k e))
-    (λ (ne : i ≡ k → ⊥). ap (λ x. eqb x 1) (bit_at_set_other w m i h k (λ e. ne (sym e))) ∙ sym (put_there i true (bit m) k ne))
-    (cases_eq i k)
+with_at w m i k h = grind (arith, nat_tests, bit_at_set_same w m i h, bit_at_set_other w m i h k)
 
 -- the set with i in it, as `m | (1 << i)` makes it
 pub bit_with : (w : Width) (m i : ℕ) → i < bits w → bit (bit_or m ((1 * 2 ^ i) % 2 ^ bits w)) ≡ put_below (bits w) i true (bit m)
@@ -63,13 +59,9 @@ unfolding bit
 without_at w m i k small h =
     let less : bit_and m (bit_not w ((1 * 2 ^ i) % 2 ^ bits w)) < 2 ^ bits w = omega (arith, and_le_l m (bit_not w ((1 * 2 ^ i) % 2 ^ bits w))) in
     ⊎_elim
-    (λ (e : i ≡ k). ap (λ x. eqb x 1) (subst (λ j. bit_at (bit_and m (bit_not w ((1 * 2 ^ i) % 2 ^ bits w))) j ≡ 0) e (bit_at_clear_same w m i h)) ∙ sym (put_here i false (bit m) k e))
-    (λ (ne : i ≡ k → ⊥). ⊎_elim
-    (λ (low : k < bits w). ap (λ x. eqb x 1) (bit_at_clear_other w m i h k low (λ e. ne (sym e))))
-    (λ (past : bits w ≤ k). bit_past (bits w) _ k less past ∙ sym (bit_past (bits w) m k small past))
+    (λ (low : k < bits w). grind (arith, nat_tests, bit_at_clear_same w m i h, bit_at_clear_other w m i h k))
+    (λ (past : bits w ≤ k). bit_past (bits w) _ k less past ∙ sym (put_there i false (bit m) k (λ e. omega arith) ∙ bit_past (bits w) m k small past))
     (cases_lt k (bits w))
-    ∙ sym (put_there i false (bit m) k ne))
-    (cases_eq i k)
 
 -- the set without i, as `m & !(1 << i)` makes it
 pub bit_without : (w : Width) (m i : ℕ) → m < 2 ^ bits w → i < bits w → bit (bit_and m (bit_not w ((1 * 2 ^ i) % 2 ^ bits w))) ≡ put_below (bits w) i false (bit m)
