@@ -49,8 +49,8 @@ impl<B: SealBook> SealBook for CountedBook<B> {
 
     fn seal(&mut self, kind: u8, seat: u8, subject: u16) -> bool {
         let new = self.inner.seal(kind, seat, subject);
-        if new && self.taken < 8216 {
-            self.taken += 1;
+        if new {
+            self.taken = self.taken.saturating_add(1);
         }
         new
     }

@@ -5,7 +5,7 @@ ghost use Rattle.std.proofs.Common.{rules};
 use entries::entry::Entry;
 
 /// A label with a number; those of one hundred are alike.
-#[derive(Clone, Copy)]
+#[derive(Clone, Copy, PartialEq, Eq, Debug)]
 pub struct Label {
     pub number: u16,
 }

@@ -1,8 +1,79 @@
 //! A record in words.
-ghost use Rattle.std.specs.Prelude.{◌<◌};
+use records::refusal::Refusal;
+use records::totals::Counts;
+use seats::seat::Phase;
+use std::alloc::Global;
+use std::error::Error;
+use std::fmt;
+use std::str::from_utf8;
+
+/// How an honest seat stands at the end of a run: its phase, its round and the blocks that it committed, each of two bytes.
+#[derive(Clone, Copy)]
+pub struct Standing<'a> {
+    pub seat: u8,
+    pub phase: Phase,
+    pub round: u8,
+    pub blocks: &'a [[u8; 2]],
+}
+
+/// What a line of a record says.
+#[derive(Clone, Copy)]
+pub enum Line<'a> {
+    Refused(Refusal),
+    Stands(Standing<'a>),
+    Counted(Counts),
+}
+
+/// The bytes are no line of a record.
+#[derive(Clone, Copy, Debug)]
+pub struct NoLine;
+
+impl fmt::Display for NoLine {
+    fn fmt<W: fmt::Write>(&self, f: &mut fmt::Formatter<W>) -> fmt::Result {
+        write!(f, "not a line of a record")
+    }
+}
+
+impl Error for NoLine {}
+
+// the phase that a byte says
+fn phase_of(state: u8) -> Phase {
+    match state {
+        0 => Phase::Waiting,
+        1 => Phase::InRound,
+        _ => Phase::Done,
+    }
+}
+
+impl<'a> TryFrom<&'a [u8]> for Line<'a> {
+    type Error = NoLine;
+
+    fn try_from(frame: &'a [u8]) -> Result<Line<'a>, NoLine> {
+        match frame {
+            [0xf0, h, l, number, layer, seat, sh, sl] => Ok(Line::Refused(Refusal {
+                line: u16::from_be_bytes([*h, *l]),
+                number: *number,
+                layer: *layer,
+                seat: *seat,
+                subject: u16::from_be_bytes([*sh, *sl]),
+            })),
+            [0xe0, seat, state, round, _, blocks @ ..] => Ok(Line::Stands(Standing {
+                seat: *seat,
+                phase: phase_of(*state),
+                round: *round,
+                blocks: blocks.as_chunks().0,
+            })),
+            [0xef, ch, cl, ah, al, rh, rl] => Ok(Line::Counted(Counts {
+                calls: u16::from_be_bytes([*ch, *cl]),
+                accepted: u16::from_be_bytes([*ah, *al]),
+                refused: u16::from_be_bytes([*rh, *rl]),
+            })),
+            _ => Err(NoLine),
+        }
+    }
+}
 
 // what a refusal means, by its number
-
 fn meaning(number: u8) -> &'static str {
     match number {
         1 => "seats not from 1 to 13, or rounds not from 1 to 8",
@@ -30,81 +101,73 @@ fn meaning(number: u8) -> &'static str {
     }
 }
 
-// where a seat is, by its state
-fn standing(state: u8) -> &'static str {
-    match state {
-        0 => "waits for round",
-        1 => "is in round",
-        _ => "is done after round",
+// where a seat is, before the number of its round
+fn whereabouts(phase: Phase) -> &'static str {
+    match phase {
+        Phase::Waiting => "waits for round",
+        Phase::InRound => "is in round",
+        Phase::Done => "is done after round",
     }
 }
 
-// the committed blocks of a seat
-fn print_blocks(rt: &HostRuntime, blocks: &[u8]) -> anyhow::Result<()> {
-    if blocks.is_empty() {
-        print!(rt; ", nothing committed")?;
-        return Ok(());
+impl fmt::Display for Standing<'_> {
+    fn fmt<W: fmt::Write>(&self, f: &mut fmt::Formatter<W>) -> fmt::Result {
+        write!(
+            f,
+            "seat {} {} {}",
+            self.seat,
+            whereabouts(self.phase),
+            self.round
+        )?;
+        if self.blocks.is_empty() {
+            return write!(f, ", nothing committed");
+        }
+        write!(f, ", committed")?;
+        for block in self.blocks {
+            write!(f, " {}", u16::from_be_bytes(*block))?;
+        }
+        Ok(())
     }
-    print!(rt; ", committed")?;
-    for i in 0..blocks.len() / 2 {
-        let block = u16::from_be_bytes([blocks[2 * i], blocks[2 * i + 1]]);
-        print!(rt; " {block}")?;
-    }
-    Ok(())
 }
 
-// one line of a record
-fn print_line(rt: &HostRuntime, frame: &[u8]) -> anyhow::Result<()> {
-    match frame {
-        [0xf0, h, l, number, layer, seat, sh, sl] => {
-            let line = u16::from_be_bytes([*h, *l]);
-            let subject = u16::from_be_bytes([*sh, *sl]);
-            let why = meaning(*number);
-            println!(rt;
-                "line {line}: refused, {number} (layer {layer}, seat {seat}, subject {subject}): {why}"
-            )?;
+impl fmt::Display for Line<'_> {
+    fn fmt<W: fmt::Write>(&self, f: &mut fmt::Formatter<W>) -> fmt::Result {
+        match self {
+            Line::Refused(refusal) => write!(
+                f,
+                "line {}: refused, {} (layer {}, seat {}, subject {}): {}",
+                refusal.line,
+                refusal.number,
+                refusal.layer,
+                refusal.seat,
+                refusal.subject,
+                meaning(refusal.number)
+            ),
+            Line::Stands(standing) => write!(f, "{standing}"),
+            Line::Counted(counts) => write!(
+                f,
+                "{} calls, {} accepted, {} refused",
+                counts.calls, counts.accepted, counts.refused
+            ),
         }
-        [0xe0, seat, state, round, _, blocks @ ..] => {
-            let stands = standing(*state);
-            print!(rt; "seat {seat} {stands} {round}")?;
-            print_blocks(rt, blocks)?;
-            println!(rt; "")?;
-        }
-        [0xef, ch, cl, ah, al, rh, rl] => {
-            let calls = u16::from_be_bytes([*ch, *cl]);
-            let accepted = u16::from_be_bytes([*ah, *al]);
-            let refused = u16::from_be_bytes([*rh, *rl]);
-            println!(rt; "{calls} calls, {accepted} accepted, {refused} refused")?;
-        }
-        _ => {}
     }
-    Ok(())
 }
 
-// the value of a hexadecimal digit, or 0
-fn digit(c: u8) -> u8
-    ensures { result < 16 }
-{
-    match c {
-        b'0'..=b'9' => c - b'0',
-        b'a'..=b'f' => c - b'a' + 10,
-        _ => 0,
+// the bytes of a line of hexadecimal
+fn bytes_of(alloc: Global, line: &str) -> anyhow::Result<Vec<u8>> {
+    let mut bytes = Vec::new(alloc);
+    for pair in line.as_bytes().chunks_exact(2) {
+        bytes.push(u8::from_str_radix(from_utf8(pair)?, 16)?)?;
     }
+    Ok(bytes)
 }
 
 /// Prints a record, line by line.
-pub fn print_record(rt: &HostRuntime, record: &[u8]) -> anyhow::Result<()> {
-    let mut frame = [0u8; 24];
-    let mut digits = 0usize;
-    for c in record {
-        if *c == b'\n' {
-            print_line(rt, &frame[0..(digits / 2).min(24)])?;
-            digits = 0;
-        } else if digits < 48 {
-            let at = digits / 2;
-            frame[at] = frame[at] % 16 * 16 + digit(*c);
-            digits += 1;
-        }
+pub fn print_record(rt: &HostRuntime, record: &str) -> anyhow::Result<()> {
+    for line in record.lines() {
+        let frame = bytes_of(rt.alloc(), line)?;
+        let line = Line::try_from(frame.as_slice())?;
+        println!(rt; "{line}")?;
     }
     Ok(())
 }

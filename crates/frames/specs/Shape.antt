@@ -1,14 +1,15 @@
 -- The frame that a frame of the code stands for.
+use Rattle.std.specs.Prelude.{Option, Some, None}
 use Rattle.calls.specs.Asked.{asked}
 use Rattle.frames.specs.Frames.{Frame as Shape}
-use Rattle.frames.specs.Frames.Frame.{opening, card, slip, ranks, call, malformed}
+use Rattle.frames.specs.Frames.Frame.{opening, card, slip, ranks, call}
 use Rattle.frames.specs.declared.frame.Frame.{Frame}
-use Rattle.frames.specs.declared.frame.Frame.TheVariants.{Opening, Card, Slip, Ranks, Call, Malformed}
+use Rattle.frames.specs.declared.frame.Frame.TheVariants.{Opening, Card, Slip, Ranks, Call}
 
-abbrev pub shape : Frame → Shape
-shape (Opening n t rounds d e corrupt) = opening n t rounds d e corrupt
-shape (Card store find) = card store find
-shape (Slip one other) = slip one other
-shape (Ranks rs) = ranks rs.now
-shape (Call c) = call (asked c)
-shape Malformed = malformed
+abbrev pub shape : Option Frame → Option Shape
+shape (Some (Opening u)) = Some (opening u)
+shape (Some (Card x)) = Some (card x)
+shape (Some (Slip x)) = Some (slip x)
+shape (Some (Ranks rs)) = Some (ranks rs.now)
+shape (Some (Call c)) = Some (call (asked c))
+shape None = None

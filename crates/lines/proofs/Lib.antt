@@ -2,3 +2,4 @@
 pub mod OutputLaws
 pub mod LineLaws
 pub mod PairLaws
+pub mod WriterLaws

@@ -1,7 +1,8 @@
 -- Lemmas on the lines of a text: the first of them, and where the next begins.
-use Rattle.std.proofs.Common.{◌≡◌, ℕ, zero, suc, ◌+◌, ◌-◌, ◌<◌, ◌≤◌, Bool, true, false, cond, ◌||◌, eqb, ◌≢◌, List, [], ◌∷◌, ◌++◌, length, get_or, drop, sym, refl, ap, ◌∙◌, append_assoc, append-nil, arith}
+use Rattle.std.proofs.Common.{◌≡◌, ℕ, zero, suc, ◌+◌, ◌-◌, ◌<◌, ◌≤◌, Bool, true, false, cond, not, ◌||◌, eqb, ltb, Option, Some, None, ◌≢◌, List, [], ◌∷◌, ◌++◌, length, get_or, drop, sym, refl, ap, ◌∙◌, append_assoc, append-nil, arith}
 use Rattle.std.proofs.lemmas.Bool.Decides.{nat_tests}
-use Rattle.std.proofs.lemmas.List.{at_drop_more}
+use Rattle.std.proofs.lemmas.List.{at_drop_more, drop_all}
+use Rattle.std.specs.List.{position, position_or_len}
 use Rattle.lines.specs.Lines.{line_bytes, none, lines_after, lines, later}
 
 -- the characters of the first line, and whether it has its line feed
@@ -75,3 +76,30 @@ pub feed_inside : (text : List ℕ) (i : ℕ) → get_or text i 0 ≡ 10 → i <
 feed_inside [] i e = absurd (omega (arith, e))
 feed_inside (x ∷ xs) zero e = omega arith
 feed_inside (x ∷ xs) (suc i) e = let h = feed_inside xs i e in omega arith
+
+-- what follows the first line feed, by its place: nothing where there is none
+later_is : (s : List ℕ) → later s ≡ drop (position_or_len (λ c. eqb c 10) s + 1) s
+later_is [] = refl
+later_is (x ∷ xs) = by (eqb x 10) (later_is xs)
+  where
+    by : (b : Bool) → later xs ≡ drop (position_or_len (λ c. eqb c 10) xs + 1) xs
+        → cond b xs (later xs) ≡ drop (cond (not b) (1 + position_or_len (λ c. eqb c 10) xs) 0 + 1) (x ∷ xs)
+    by true h = refl
+    by false h =
+        let i = position_or_len (λ c. eqb c 10) xs in
+        let k : suc (i + 1) ≡ 1 + i + 1 = omega arith in
+        h ∙ ap (λ j. drop j (x ∷ xs)) k
+
+pub later_behind : (s : List ℕ) (i : ℕ) → Some i ≡ position (λ c. eqb c 10) s → later s ≡ drop (i + 1) s
+later_behind s i e = by (ltb (position_or_len (λ c. eqb c 10) s) (length s)) e
+  where
+    by : (b : Bool) → Some i ≡ cond b (Some (position_or_len (λ c. eqb c 10) s)) None → later s ≡ drop (i + 1) s
+    by true h = let k : position_or_len (λ c. eqb c 10) s ≡ i = cc in later_is s ∙ ap (λ j. drop (j + 1) s) k
+    by false h = cc
+
+pub later_nowhere : (s : List ℕ) → None ≡ position (λ c. eqb c 10) s → later s ≡ []
+later_nowhere s e = by (ltb (position_or_len (λ c. eqb c 10) s) (length s)) refl e
+  where
+    by : (b : Bool) → ltb (position_or_len (λ c. eqb c 10) s) (length s) ≡ b → ◌≡◌ {A = Option ℕ} None (cond b (Some (position_or_len (λ c. eqb c 10) s)) None) → later s ≡ []
+    by true z h = cc
+    by false z h = later_is s ∙ drop_all (position_or_len (λ c. eqb c 10) s + 1) s (grind (arith, nat_tests))

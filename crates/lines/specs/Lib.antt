@@ -2,3 +2,4 @@
 pub mod Lines
 pub mod Output
 pub mod Reading
+pub mod Writing

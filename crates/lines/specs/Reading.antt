@@ -1,30 +1,42 @@
 -- What a reader has read, and what is left.
-use Rattle.std.specs.Prelude.{◌≡◌, ℕ, ◌+◌, ◌≤◌, Bool, true, false, cond, List, [], ◌∷◌, length, take, drop}
+use Rattle.std.specs.Prelude.{◌≡◌, ℕ, ◌+◌, ◌≤◌, List, [], ◌∷◌, length, Option, Some, None, IfSome}
 use Rattle.lines.specs.Lines.{lines}
+use Rattle.basics.specs.Elements.{elements}
+use Rattle.lines.specs.declared.line.Line.{Line}
 use Rattle.lines.specs.declared.reader.Reader.{Reader}
+
+-- which line of its text a line is, from 1
+abbrev pub line_number : Line → ℕ
+line_number l = l.number
+
+-- the bytes of a line: none where it is malformed
+abbrev pub held : Line → List ℕ
+held l = elements l.bytes
 
 -- the text behind the lines that were read
 abbrev pub left : Reader → List ℕ
-left x = drop x.at x.text.now
+left x = x.text.now
 
--- the bytes of the line that was read last
-abbrev pub held : Reader → List ℕ
-held x = take x.size x.buffer
+-- the lines of that text
+abbrev pub lines_left : Reader → List (List ℕ)
+lines_left x = lines (left x)
 
 -- how many lines were read
 abbrev pub line_now : Reader → ℕ
 line_now x = x.line
 
 -- what is still to come: the line at hand, if there is one, and then those that are left
-abbrev pub upcoming : Bool → Reader → List (List ℕ)
-upcoming false x = []
-upcoming true x = held x ∷ lines (left x)
+abbrev pub upcoming : Option Line → Reader → List (List ℕ)
+upcoming None x = []
+upcoming (Some l) x = held l ∷ lines_left x
 
-abbrev pub lines_read : Bool → ℕ
-lines_read r = cond r 1 0
+abbrev pub lines_read : Option Line → ℕ
+lines_read None = 0
+lines_read (Some _) = 1
 
 -- One line is read, if there is one: from x to y.
-pub record Next (x y : Reader) (r : Bool) : Type 0 where
-  pub line_is : lines (left x) ≡ upcoming r y
+pub record Next (x : Reader) (r : Option Line) (y : Reader) : Type 0 where
+  pub line_is : lines_left x ≡ upcoming r y
+  pub number_is : IfSome r (λ l. line_number l ≡ line_now y)
   pub counts : line_now y ≡ line_now x + lines_read r
   pub falls : length (left y) + lines_read r ≤ length (left x)

@@ -1,6 +1,7 @@
 //! Lines of hexadecimal: a reader of the bytes of each, and a writer of one.
 #![tactic(auto)]
 
-mod hex;
+pub mod hex;
+pub mod line;
 pub mod output;
 pub mod reader;

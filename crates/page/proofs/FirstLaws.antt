@@ -6,17 +6,25 @@ use Rattle.draws.specs.Made.{in_bounds, table_made}
 use Rattle.draws.specs.Ranks.{table_rank}
 use Rattle.draws.specs.Rotated.{rotated}
 use Rattle.draws.specs.declared.fault.DrawFault.TheVariants.{Sizes}
-use Rattle.plans.specs.Setup.{fresh_plan, can_be_corrupt, with_corrupt}
+use Rattle.plans.specs.Setup.{fresh_plan, can_be_corrupt, named_corrupt, with_corrupt}
 use Rattle.plans.specs.declared.fault.PlanFault.{PlanFault}
 use Rattle.plans.specs.declared.fault.PlanFault.TheVariants.{Draw, TooFewSeats, LongDelay}
+use Rattle.frames.specs.declared.frame.Setup.{Setup}
 use Rattle.page.specs.First.{marked_answer, marked, unless_refused, named, then_named, plan_with, first_plan}
 use Rattle.page.specs.Ranks.{with_ranks, with_table, meant, by_draw, table_plan}
-use Rattle.page.specs.declared.types.Setup.{Setup}
 
 module _ (corrupt s : ℕ) (p : Model) where
-  pub seat_step : s < 16 → named corrupt (16 - s) s p ≡ unless_refused (marked_answer corrupt s p) (named corrupt (16 - (s + 1)) (s + 1) (marked corrupt s p))
+  seat_step : s < 16 → named corrupt (16 - s) s p ≡ unless_refused (marked_answer corrupt s p) (named corrupt (16 - (s + 1)) (s + 1) (marked corrupt s p))
   unfolding named
   seat_step h = let e : 16 - s ≡ suc (16 - (s + 1)) = omega arith in ap (λ k. named corrupt k s p) e
+
+  -- a seat whose bit is not set is passed over
+  pub seat_passed : s < 16 → bit corrupt s ≡ false → named corrupt (16 - s) s p ≡ named corrupt (16 - (s + 1)) (s + 1) p
+  seat_passed h e = rw e at (seat_step h)
+
+  -- a seat whose bit is set is named corrupt, or refused
+  pub seat_named : s < 16 → bit corrupt s ≡ true → named corrupt (16 - s) s p ≡ unless_refused (named_corrupt p s) (named corrupt (16 - (s + 1)) (s + 1) (cond (can_be_corrupt p s) (with_corrupt s p) p))
+  seat_named h e = rw e at (seat_step h)
 
   pub seat_end : 16 ≤ s → named corrupt (16 - s) s p ≡ Ok p
   unfolding named
@@ -99,15 +107,15 @@ module _ (u : Setup) (p : Model) (table : List ℕ) where
     where
       by : (a b : Bool) → then_named u.corrupt (cond a (cond b (Ok (fresh_plan n R rank u.t u.d u.e)) (Err LongDelay)) (Err TooFewSeats)) ≡ Ok p → (p.n ≡ n) × (p.rounds ≡ R)
       by true true g = subst (SameSizes (fresh_plan n R rank u.t u.d u.e)) g (named_sizes u.corrupt 16 0 (fresh_plan n R rank u.t u.d u.e))
-      by true false g = no_refusal LongDelay p g
-      by false b g = no_refusal TooFewSeats p g
+      by true false g = cc
+      by false b g = cc
 
   first_made : first_plan u ≡ Ok p → plan_with u.n u.rounds (rotated u.n) u ≡ Ok p
   first_made e = by (in_bounds u.n u.rounds) e
     where
       by : (b : Bool) → cond b (plan_with u.n u.rounds (rotated u.n) u) (Err (Draw Sizes)) ≡ Ok p → plan_with u.n u.rounds (rotated u.n) u ≡ Ok p
       by true g = g
-      by false g = no_refusal (Draw Sizes) p g
+      by false g = cc
 
   pub table_plan_is : first_plan u ≡ Ok p → table_made p.n p.rounds table ≡ Ok (meant p.n p.rounds table) → table_plan u table ≡ Ok (with_table table p)
   table_plan_is e t =

@@ -1,5 +1,5 @@
 -- Lemmas on one line of a run: an entry line, or a call line.
-use Rattle.std.proofs.Common.{◌≡◌, ℕ, ◌+◌, ◌≤◌, Bool, true, false, List, ◌∷◌, Err, Result, sym, refl, ap, ◌∙◌, arith}
+use Rattle.std.proofs.Common.{◌≡◌, ℕ, ◌+◌, ◌≤◌, Bool, true, false, Option, Some, List, ◌∷◌, Err, Result, sym, refl, ap, ◌∙◌, arith}
 use Rattle.model.specs.Setup.{Plan, Plan as Model}
 use Rattle.model.specs.World.{World}
 use Rattle.model.specs.Checks.{Verdict, verdict}
@@ -7,7 +7,7 @@ use Rattle.model.specs.Checks.Verdict.{accepted, refused}
 use Rattle.lines.specs.Reading.{lines_read}
 use Rattle.lines.specs.declared.reader.Reader.{Reader}
 use Rattle.frames.specs.Frames.{Frame}
-use Rattle.frames.specs.Frames.Frame.{opening, card, slip, ranks, call, malformed}
+use Rattle.frames.specs.Frames.Frame.{call}
 use Rattle.records.specs.declared.refusal.Refusal.{Refusal}
 use Rattle.records.specs.declared.totals.Counts.{Counts}
 use Rattle.page.specs.Refusals.{refusal, also}
@@ -24,7 +24,7 @@ use Rattle.page.specs.declared.types.Place.{Place}
 use Rattle.page.specs.declared.types.Place.TheVariants.{Entry, Closes, Misplaced}
 
 -- Line j, whose frame is f, stands in the place of an entry line.
-module _ (sort : Sort) (p : Model) (es : List PageEntry) (k j : ℕ) (fs : List Refusal) (fr : List Frame) (f : Frame) (more : List Frame) (all : List ℕ)
+module _ (sort : Sort) (p : Model) (es : List PageEntry) (k j : ℕ) (fs : List Refusal) (fr : List (Option Frame)) (f : Option Frame) (more : List (Option Frame)) (all : List ℕ)
     (inv : all ≡ collected sort p es k fs fr) (is : fr ≡ f ∷ more) (at : j ≡ k) where
   abbrev by_place : Place → List ℕ
   by_place pl = elim pl [
@@ -53,7 +53,7 @@ module _ (p : Plan) (w w' : World) (fs fs' : List Refusal) (c c' : Counts) where
   same_line true y k k' e = ap (λ i. called p w' i fs' c' (coming true y)) e
   same_line false y k k' e = refl
 
-  pub call_line : (k k' : ℕ) (fr : List Frame) (f : Frame) (more : List Frame) (b : Bool) (y : Reader) (all : List ℕ) → called p w k fs c fr ≡ all → fr ≡ f ∷ more
+  pub call_line : (k k' : ℕ) (fr : List (Option Frame)) (f : Option Frame) (more : List (Option Frame)) (b : Bool) (y : Reader) (all : List ℕ) → called p w k fs c fr ≡ all → fr ≡ f ∷ more
       → w' ≡ step_world p w f → fs' ≡ step_refusals p w k fs f → c' ≡ step_counts p w c f → more ≡ coming b y → k' ≡ k + lines_read b
       → called p w' k' fs' c' (coming b y) ≡ all
   call_line k k' fr f more b y all inv is ew ef ec er e =
@@ -70,26 +70,18 @@ module _ (c : Counts) where
   count_sum accepted h = omega arith
   count_sum (refused _ _ _ _) h = omega arith
 
-  pub step_most : (p : Plan) (w : World) (f : Frame) → (step_counts p w c f).calls ≤ c.calls + 1
-  step_most p w (call x) = count_most (verdict p w x)
-  step_most p w (opening _ _ _ _ _ _) = omega arith
-  step_most p w (card _ _) = omega arith
-  step_most p w (slip _ _) = omega arith
-  step_most p w (ranks _) = omega arith
-  step_most p w malformed = omega arith
+  pub step_most : (p : Plan) (w : World) (f : Option Frame) → (step_counts p w c f).calls ≤ c.calls + 1
+  step_most p w (Some (call x)) = count_most (verdict p w x)
+  step_most p w _ = omega arith
 
-  pub step_sum : (p : Plan) (w : World) (f : Frame) → c.accepted + c.refused ≡ c.calls → (step_counts p w c f).accepted + (step_counts p w c f).refused ≡ (step_counts p w c f).calls
-  step_sum p w (call x) h = count_sum (verdict p w x) h
-  step_sum p w (opening _ _ _ _ _ _) h = h
-  step_sum p w (card _ _) h = h
-  step_sum p w (slip _ _) h = h
-  step_sum p w (ranks _) h = h
-  step_sum p w malformed h = h
+  pub step_sum : (p : Plan) (w : World) (f : Option Frame) → c.accepted + c.refused ≡ c.calls → (step_counts p w c f).accepted + (step_counts p w c f).refused ≡ (step_counts p w c f).calls
+  step_sum p w (Some (call x)) h = count_sum (verdict p w x) h
+  step_sum p w _ h = h
 
 -- The first line, whose frame is f: fr is what the reader has.
-pub first_line : (sort : Sort) (fr : List Frame) (f g : Frame) (more : List Frame) (r : Result Plan PageFault) → fr ≡ f ∷ more → g ≡ f → r ≡ judged g → run sort fr ≡ begun sort r more
+pub first_line : (sort : Sort) (fr : List (Option Frame)) (f g : Option Frame) (more : List (Option Frame)) (r : Result Plan PageFault) → fr ≡ f ∷ more → g ≡ f → r ≡ judged g → run sort fr ≡ begun sort r more
 first_line sort fr f g more r is e j = ap (run sort) is ∙ ap (λ x. begun sort (judged x) more) (sym e) ∙ ap (λ x. begun sort x more) (sym j)
 
-pub begun_refused : (sort : Sort) (f : PageFault) (more : List Frame) → begun sort (Err f) more ≡ ended_at 1 f
+pub begun_refused : (sort : Sort) (f : PageFault) (more : List (Option Frame)) → begun sort (Err f) more ≡ ended_at 1 f
 begun_refused Cards f more = refl
 begun_refused Slips f more = refl

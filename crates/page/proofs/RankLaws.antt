@@ -1,5 +1,5 @@
 -- Lemmas on the rank lines: one more of them.
-use Rattle.std.proofs.Common.{◌≡◌, ℕ, suc, ◌+◌, ◌*◌, ◌<◌, ◌≤◌, Bool, true, false, cond, eqb, ltb, leb, ◌≢◌, List, [], ◌∷◌, ◌++◌, length, get_or, take, Ok, Err, Result, sym, refl, ap, ◌∙◌, append_assoc, arith, length-append}
+use Rattle.std.proofs.Common.{◌≡◌, ℕ, suc, ◌+◌, ◌*◌, ◌<◌, ◌≤◌, Bool, true, false, cond, eqb, ltb, leb, ◌≢◌, List, [], ◌∷◌, ◌++◌, length, get_or, take, Ok, Err, Result, Option, sym, refl, ap, ◌∙◌, append_assoc, arith, length-append}
 use Rattle.std.proofs.lemmas.Bool.Decides.{nat_tests}
 use Rattle.std.proofs.lemmas.List.{take_more, length-take-le}
 use Rattle.std.proofs.lemmas.Bool.{lt-ltb, le-leb}
@@ -37,11 +37,11 @@ judged_table n R xs e h =
     ap (λ b. cond b (cond (leb (n * R) (length xs)) good (Err Short)) (Err Sizes)) e ∙ ap (λ b. cond b good (Err Short)) (le-leb (n * R) (length xs) h)
 
 -- Where the lines that are left begin at a rank line of round done + 1: xs is the row as it was read.
-module _ (p : Model) (n left done : ℕ) (table : List ℕ) (fr : List Frame) (all : List ℕ) (e : n ≡ suc left) (inv : all ≡ rows p n done table fr) where
+module _ (p : Model) (n left done : ℕ) (table : List ℕ) (fr : List (Option Frame)) (all : List ℕ) (e : n ≡ suc left) (inv : all ≡ rows p n done table fr) where
   pub rows_end : fr ≡ [] → all ≡ ended_at (done + 2) Malformed
   rows_end is = inv ∙ ap (rows p n done table) is ∙ ap (λ j. rows p j done table []) e
 
-  module _ (f : Frame) (more : List Frame) (xs : List ℕ) (is : fr ≡ f ∷ more) (r : xs ≡ row f) where
+  module _ (f : Option Frame) (more : List (Option Frame)) (xs : List ℕ) (is : fr ≡ f ∷ more) (r : xs ≡ row f) where
     abbrev by_rank : Bool → List ℕ
     by_rank b = cond b (ended_at (done + 2) (Plan (Draw NotOnce))) (rows p left (done + 1) (table ++ xs) more)
 

@@ -1,5 +1,5 @@
 -- The first line: the plan that it makes, or why it is refused.
-use Rattle.std.specs.Prelude.{ℕ, zero, suc, ◌+◌, cond, Ok, Err, Result}
+use Rattle.std.specs.Prelude.{ℕ, zero, suc, ◌+◌, cond, Ok, Err, Option, Some, Result}
 use Rattle.basics.specs.Bit.{bit}
 use Rattle.model.specs.Setup.{Plan as Model}
 use Rattle.draws.specs.Made.{in_bounds}
@@ -8,9 +8,9 @@ use Rattle.draws.specs.declared.fault.DrawFault.TheVariants.{Sizes}
 use Rattle.plans.specs.Setup.{planned, can_be_corrupt, named_corrupt, with_corrupt}
 use Rattle.plans.specs.declared.fault.PlanFault.{PlanFault}
 use Rattle.plans.specs.declared.fault.PlanFault.TheVariants.{Draw}
+use Rattle.frames.specs.declared.frame.Setup.{Setup}
 use Rattle.frames.specs.Frames.{Frame}
-use Rattle.frames.specs.Frames.Frame.{opening, card, slip, ranks, call, malformed}
-use Rattle.page.specs.declared.types.Setup.{Setup}
+use Rattle.frames.specs.Frames.Frame.{opening}
 use Rattle.page.specs.declared.fault.PageFault.{PageFault}
 use Rattle.page.specs.declared.fault.PageFault.TheVariants.{Malformed, Plan}
 
@@ -47,11 +47,7 @@ abbrev pub as_page : Result Model PlanFault → Result Model PageFault
 as_page (Ok p) = Ok p
 as_page (Err f) = Err (Plan f)
 
--- a frame in the place of the first line
-abbrev pub judged : Frame → Result Model PageFault
-judged (opening n t rounds d e corrupt) = as_page (first_plan (record { n = n; t = t; rounds = rounds; d = d; e = e; corrupt = corrupt }))
-judged (card _ _) = Err Malformed
-judged (slip _ _) = Err Malformed
-judged (ranks _) = Err Malformed
-judged (call _) = Err Malformed
-judged malformed = Err Malformed
+-- what a line says in the place of the first line
+abbrev pub judged : Option Frame → Result Model PageFault
+judged (Some (opening u)) = as_page (first_plan u)
+judged _ = Err Malformed

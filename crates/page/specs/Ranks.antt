@@ -1,5 +1,5 @@
 -- The rank lines of the slip hall, and the plan with their ranks.
-use Rattle.std.specs.Prelude.{ℕ, List, [], Ok, Err, Result}
+use Rattle.std.specs.Prelude.{ℕ, Option, Some, List, [], Ok, Err, Result}
 use Rattle.model.specs.Setup.{Plan as Model}
 use Rattle.draws.specs.Made.{Meaning, table_made}
 use Rattle.draws.specs.Ranks.{table_rank}
@@ -8,18 +8,14 @@ use Rattle.plans.specs.Setup.{drawn_rank}
 use Rattle.plans.specs.declared.fault.PlanFault.{PlanFault}
 use Rattle.plans.specs.declared.fault.PlanFault.TheVariants.{Draw}
 use Rattle.frames.specs.Frames.{Frame}
-use Rattle.frames.specs.Frames.Frame.{opening, card, slip, ranks, call, malformed}
+use Rattle.frames.specs.Frames.Frame.{ranks}
+use Rattle.frames.specs.declared.frame.Setup.{Setup}
 use Rattle.page.specs.First.{plan_with}
-use Rattle.page.specs.declared.types.Setup.{Setup}
 
--- the ranks of a frame: none where it is no rank line
-abbrev pub row : Frame → List ℕ
-row (ranks rs) = rs
-row (opening _ _ _ _ _ _) = []
-row (card _ _) = []
-row (slip _ _) = []
-row (call _) = []
-row malformed = []
+-- the ranks that a line says: none where it is no rank line
+abbrev pub row : Option Frame → List ℕ
+row (Some (ranks rs)) = rs
+row _ = []
 
 -- a plan, but with these ranks
 abbrev pub with_ranks : (ℕ → ℕ → ℕ) → Model → Model

@@ -1,5 +1,5 @@
 -- One run: from the bytes of a submission to the bytes that are written.
-use Rattle.std.specs.Prelude.{ℕ, zero, suc, ◌+◌, cond, List, [], ◌∷◌, ◌++◌, length, Ok, Err, Result, ◌==◌, nat_lt}
+use Rattle.std.specs.Prelude.{ℕ, zero, suc, ◌+◌, cond, List, [], ◌∷◌, ◌++◌, length, Ok, Err, Result, Option, Some, ◌==◌, nat_lt}
 use Rattle.model.specs.Setup.{Plan as Model}
 use Rattle.model.specs.Effects.{opening as opening_state}
 use Rattle.draws.specs.Ranks.{table_rank, some_misplaced}
@@ -8,7 +8,7 @@ use Rattle.plans.specs.Setup.{with_entries}
 use Rattle.plans.specs.declared.fault.PlanFault.TheVariants.{Draw, ManyEntries}
 use Rattle.lines.specs.Output.{over}
 use Rattle.frames.specs.Frames.{Frame, frames}
-use Rattle.frames.specs.Frames.Frame.{opening, card, slip, ranks, call, malformed}
+use Rattle.frames.specs.Frames.Frame.{card, slip, call}
 use Rattle.records.specs.declared.refusal.Refusal.{Refusal}
 use Rattle.page.specs.Refusals.{refusal, also}
 use Rattle.page.specs.First.{judged}
@@ -25,16 +25,12 @@ use Rattle.page.specs.declared.types.PageEntry.TheVariants.{Card, Slip}
 use Rattle.page.specs.declared.types.Place.{Place}
 use Rattle.page.specs.declared.types.Place.TheVariants.{Entry, Closes, Misplaced}
 
--- What a frame is in the place of an entry line: an entry of the hall's own sort, a call, which closes the table, or neither.
-abbrev pub placed : Sort → Frame → Place
-placed Cards (card x y) = Entry (Card (record { store = x; find = y }))
-placed Slips (card x y) = Misplaced
-placed Cards (slip x y) = Misplaced
-placed Slips (slip x y) = Entry (Slip (record { one = x; other = y }))
-placed sort (call x) = Closes
-placed sort (opening _ _ _ _ _ _) = Misplaced
-placed sort (ranks _) = Misplaced
-placed sort malformed = Misplaced
+-- What a line is in the place of an entry line: an entry of the hall's own sort, a call, which closes the table, or neither.
+abbrev pub placed : Sort → Option Frame → Place
+placed Cards (Some (card x)) = Entry (Card x)
+placed Slips (Some (slip x)) = Entry (Slip x)
+placed _ (Some (call _)) = Closes
+placed _ _ = Misplaced
 
 -- an entry is taken into the table; past the 128th it is refused
 abbrev pub with_entry : List PageEntry → PageEntry → List PageEntry
@@ -44,12 +40,12 @@ abbrev pub entry_refusals : List PageEntry → ℕ → List Refusal → List Ref
 entry_refusals entries k fs = cond (nat_lt (length entries) 128) fs (also fs (refusal k (Plan ManyEntries)))
 
 -- the hall opens with the entries, and line k is a call
-abbrev pub opened : Model → List PageEntry → ℕ → List Refusal → List Frame → List ℕ
+abbrev pub opened : Model → List PageEntry → ℕ → List Refusal → List (Option Frame) → List ℕ
 opened p entries k fs more = called (with_entries entries_alike entries p) (opening_state (with_entries entries_alike entries p)) k fs no_counts more
 
 -- the entry table, from line k on; the first call closes it
 module _ (sort : Sort) (p : Model) where
-  abbrev pub collected : List PageEntry → ℕ → List Refusal → List Frame → List ℕ
+  abbrev pub collected : List PageEntry → ℕ → List Refusal → List (Option Frame) → List ℕ
   collected entries k fs [] = opened p entries k fs []
   collected entries k fs (f ∷ more) =
       elim (placed sort f) [
@@ -65,7 +61,7 @@ ended_at k f = only (refusal k f)
 -- The rank lines that are left to read, after those of some rounds; that of round 1 is line 2. A line that has not n ranks, or is missing, is
 -- malformed; it is refused if, with it, the ranks of a round are not each once.
 module _ (p : Model) where
-  abbrev pub rows : ℕ → ℕ → List ℕ → List Frame → List ℕ
+  abbrev pub rows : ℕ → ℕ → List ℕ → List (Option Frame) → List ℕ
   rows zero done table more = collected Slips (with_table table p) [] (done + 2) [] more
   rows (suc left) done table [] = ended_at (done + 2) Malformed
   rows (suc left) done table (f ∷ more) =
@@ -76,12 +72,12 @@ module _ (p : Model) where
       (ended_at (done + 2) Malformed)
 
 -- after the first line: the slip hall has a rank line for each round
-abbrev pub begun : Sort → Result Model PageFault → List Frame → List ℕ
+abbrev pub begun : Sort → Result Model PageFault → List (Option Frame) → List ℕ
 begun Cards (Ok p) more = collected Cards p [] 2 [] more
 begun Slips (Ok p) more = rows p p.rounds 0 [] more
 begun sort (Err f) more = ended_at 1 f
 
-abbrev pub run : Sort → List Frame → List ℕ
+abbrev pub run : Sort → List (Option Frame) → List ℕ
 run sort [] = ended_at 1 Malformed
 run sort (f ∷ more) = begun sort (judged f) more
 

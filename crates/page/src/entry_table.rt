@@ -10,8 +10,6 @@ ghost use Rattle.page.specs.Run.{placed as place_of, collected, opened, with_ent
 use crate::fault::{PageFault, refused_at};
 use crate::types::{PageEntry, Place, Sort};
 use basics::list::BoundedList;
-use entries::card::Card;
-use entries::slip::Slip;
 use frames::decode::decode;
 use frames::frame::Frame;
 use lines::reader::Reader;
@@ -19,19 +17,13 @@ use plans::fault::PlanFault;
 use records::refusal::Refusal;
 
 /// What a line is in the place of an entry line.
-fn placed(sort: Sort, frame: Frame) -> Place
+fn placed(sort: Sort, frame: Option<Frame>) -> Place
     ensures { result ≡ place_of sort (shape frame.entry) }
 {
     match (sort, frame) {
-        (Sort::Cards, Frame::Card { store, find }) => Place::Entry(PageEntry::Card(Card {
-            store,
-            find,
-        })),
-        (Sort::Slips, Frame::Slip { one, other }) => Place::Entry(PageEntry::Slip(Slip {
-            one,
-            other,
-        })),
-        (_, Frame::Call(_)) => Place::Closes,
+        (Sort::Cards, Some(Frame::Card(card))) => Place::Entry(PageEntry::Card(card)),
+        (Sort::Slips, Some(Frame::Slip(slip))) => Place::Entry(PageEntry::Slip(slip)),
+        (_, Some(Frame::Call(_))) => Place::Closes,
         _ => Place::Misplaced,
     }
 }

@@ -38,28 +38,17 @@ impl From<HallFault> for PageFault {
 pub fn call_refused_at(line: u16, seat: u8, named: u16, fault: PageFault) -> Refusal
     ensures { result ≡ call_refusal line seat named fault }
 {
-    match fault {
-        PageFault::Malformed => Refusal {
-            line,
-            number: 23,
-            layer: 1,
-            seat: 0,
-            subject: 0,
-        },
-        PageFault::Plan(f) => Refusal {
-            line,
-            number: f.number(),
-            layer: 2,
-            seat: f.seat(),
-            subject: 0,
-        },
-        PageFault::Hall(f) => Refusal {
-            line,
-            number: f.number(),
-            layer: f.layer(),
-            seat,
-            subject: f.subject(named),
-        },
+    let (number, layer, seat, subject) = match fault {
+        PageFault::Malformed => (23, 1, 0, 0),
+        PageFault::Plan(f) => (f.number(), 2, f.seat(), 0),
+        PageFault::Hall(f) => (f.number(), f.layer(), seat, f.subject(named)),
+    };
+    Refusal {
+        line,
+        number,
+        layer,
+        seat,
+        subject,
     }
 }
 

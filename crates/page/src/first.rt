@@ -1,30 +1,19 @@
 //! The first line.
-ghost use Rattle.std.specs.Prelude.{◌≡◌, ℕ, ◌≤◌, Ok, MatchResult};
+ghost use Rattle.std.specs.Prelude.{◌≡◌};
 ghost use Rattle.plans.specs.Planned.{model};
 ghost use Rattle.plans.specs.Setup.{modelled};
 ghost use Rattle.frames.specs.Shape.{shape};
-ghost use Rattle.page.specs.First.{marked_answer, marked, plan_with, first_plan, judged};
+ghost use Rattle.page.specs.First.{plan_with, first_plan, judged};
 ghost use Rattle.page.specs.Setups.{started};
 
 use crate::fault::PageFault;
-use crate::types::{Setup, Start};
+use crate::types::Start;
 use basics::mask::Mask;
 use draws::draw::Draw;
 use draws::rotation::Rotation;
-use frames::frame::Frame;
+use frames::frame::{Frame, Setup};
 use plans::fault::PlanFault;
 use plans::plan::Plan;
-
-/// Names a seat corrupt if its bit is set.
-fn name_marked(plan: &mut Plan, corrupt: u16, seat: u8) -> Result<(), PlanFault>
-    ensures answer { result ≡ marked_answer corrupt seat (model plan.old) }
-    ensures plan { model plan.new ≡ marked corrupt seat (model plan.old) }
-{
-    if !corrupt.has(seat) {
-        return Ok(());
-    }
-    plan.name_corrupt(seat)
-}
 
 /// The plan of a draw with what the first line says: the seats whose bits are set are named corrupt, from seat 0 up.
 pub(crate) fn plan_with<D: Draw>(draw: &D, setup: Setup) -> Result<Plan, PlanFault>
@@ -32,7 +21,9 @@ pub(crate) fn plan_with<D: Draw>(draw: &D, setup: Setup) -> Result<Plan, PlanFau
 {
     let mut plan = Plan::new(draw, setup.t, setup.d, setup.e)?;
     for seat in 0..16u8 {
-        name_marked(&mut plan, setup.corrupt, seat)?;
+        if setup.corrupt.has(seat) {
+            plan.name_corrupt(seat)?;
+        }
     }
     Ok(plan)
 }
@@ -46,28 +37,11 @@ fn first_plan(setup: Setup) -> Result<Plan, PlanFault>
 }
 
 /// Judges the first line.
-pub(crate) fn judge(frame: Frame) -> Result<Start, PageFault>
-    ensures value { started result ≡ judged (shape frame.entry) }
-    ensures setup { MatchResult result (λ x. first_plan x.setup ≡ Ok (model x.plan)) (λ _. 0 ≤ 0) }
+pub(crate) fn judge(frame: Option<Frame>) -> Result<Start, PageFault>
+    ensures { started result ≡ judged (shape frame.entry) }
 {
-    let Frame::Opening {
-        n,
-        t,
-        rounds,
-        d,
-        e,
-        corrupt,
-    } = frame
-    else {
+    let Some(Frame::Opening(setup)) = frame else {
         return Err(PageFault::Malformed);
-    };
-    let setup = Setup {
-        n,
-        t,
-        rounds,
-        d,
-        e,
-        corrupt,
     };
     let plan = first_plan(setup)?;
     Ok(Start { setup, plan })

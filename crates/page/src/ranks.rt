@@ -6,7 +6,6 @@ ghost use Rattle.plans.specs.Planned.{model};
 ghost use Rattle.plans.specs.Setup.{modelled};
 ghost use Rattle.lines.specs.Reading.{line_now};
 ghost use Rattle.frames.specs.Shape.{shape};
-ghost use Rattle.page.specs.First.{first_plan};
 ghost use Rattle.page.specs.Ranks.{row as row_of, meant, with_table, table_plan};
 ghost use Rattle.page.specs.Reading.{behind};
 ghost use Rattle.page.specs.Record.{only};
@@ -26,11 +25,11 @@ use plans::plan::Plan;
 use records::refusal::Refusal;
 
 /// The ranks of a rank line: none of any other.
-fn row<'a>(frame: Frame<'a>) -> &'a [u8]
+fn row<'a>(frame: Option<Frame<'a>>) -> &'a [u8]
     ensures { result.now ≡ row_of (shape frame.entry) }
 {
     match frame {
-        Frame::Ranks { ranks } => ranks,
+        Some(Frame::Ranks(ranks)) => ranks,
         _ => &[],
     }
 }
@@ -87,8 +86,7 @@ fn table_plan(setup: Setup, table: &[u8]) -> Result<Plan, PlanFault>
 
 /// The plan of the slip hall, with the ranks of its rank lines.
 pub(crate) fn slip_plan(start: Start, reader: &mut Reader) -> Result<Plan, Refusal>
-    requires setup { first_plan start.setup ≡ Ok (model start.plan) }
-    requires first { line_now reader.old ≡ 1 }
+    requires { line_now reader.old ≡ 1 }
     ensures { MatchResult result
         (λ p. rows (model start.plan) (model start.plan).rounds 0 [] (behind reader.old) ≡ collected Slips (model p) [] (line_now reader.new + 1) [] (behind reader.new))
         (λ f. rows (model start.plan) (model start.plan).rounds 0 [] (behind reader.old) ≡ only f) }

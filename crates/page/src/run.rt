@@ -22,7 +22,7 @@ use seals::book::{SealBook, SealView};
 /// One line in the place of a call line.
 fn take_line<B: SealBook>(
     hall: &mut Hall<B>,
-    frame: Frame,
+    frame: Option<Frame>,
     line: u16,
     refusals: &mut BoundedList<Refusal>,
     counts: &mut Counts,
@@ -36,7 +36,7 @@ fn take_line<B: SealBook>(
     ensures some { room refusals.new ≡ 64 }
 {
     match frame {
-        Frame::Call(call) => {
+        Some(Frame::Call(call)) => {
             let seat = call.seat();
             let subject = call.subject();
             counts.calls += 1;

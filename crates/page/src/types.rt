@@ -1,28 +1,19 @@
 //! What a run is told.
-ghost use Rattle.page.specs.Alike.{entries_alike};
-ghost use Rattle.std.proofs.Common.{rules};
+ghost use Rattle.std.specs.Prelude.{◌≡◌, Ok};
+ghost use Rattle.plans.specs.Planned.{model};
+ghost use Rattle.page.specs.First.{first_plan};
 
 use entries::card::Card;
 use entries::entry::Entry;
 use entries::slip::Slip;
+pub use frames::frame::Setup;
 use plans::plan::Plan;
 
 /// The two sorts of hall: one takes cards and rotates its ranks, the other takes slips and is told its ranks.
-#[derive(Clone, Copy)]
+#[derive(Clone, Copy, PartialEq, Eq, Debug)]
 pub enum Sort {
     Cards,
     Slips,
-}
-
-/// What the first line fixes: seats, how many may be corrupt, rounds, the two numbers of the delays, and the corrupt seats by their bits.
-#[derive(Clone, Copy)]
-pub struct Setup {
-    pub n: u8,
-    pub t: u8,
-    pub rounds: u8,
-    pub d: u16,
-    pub e: u16,
-    pub corrupt: u16,
 }
 
 /// The first line and the plan that it makes, with the ranks of the rotation.
@@ -30,17 +21,18 @@ pub struct Setup {
 pub struct Start {
     pub setup: Setup,
     pub plan: Plan,
+    ghost made: { first_plan setup ≡ Ok (model plan) },
 }
 
 /// An entry of the table, of either sort of hall.
-#[derive(Clone, Copy)]
+#[derive(Clone, Copy, PartialEq, Eq, Debug)]
 pub enum PageEntry {
     Card(Card),
     Slip(Slip),
 }
 
 /// What a line is in the place of an entry line.
-#[derive(Clone, Copy)]
+#[derive(Clone, Copy, PartialEq, Eq, Debug)]
 pub enum Place {
     Entry(PageEntry),
     Closes,
@@ -48,6 +40,9 @@ pub enum Place {
 }
 
 impl Entry for PageEntry {
+    ghost use Rattle.page.specs.Alike.{entries_alike};
+    ghost use Rattle.std.proofs.Common.{rules};
+
     ghost alike = { entries_alike };
 
     ghost same = { Prim.search rules };

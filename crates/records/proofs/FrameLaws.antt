@@ -1,6 +1,6 @@
--- Lemmas on the frames of a record: one more block, one more refusal, and how long their lines are.
-use Rattle.std.proofs.Common.{◌≡◌, ℕ, ◌+◌, ◌*◌, ◌/◌, ◌%◌, ◌<◌, List, [], ◌∷◌, ◌++◌, map, length, take, set, refl, ap, ◌∙◌, append_assoc, arith, length-append, length-set}
-use Rattle.std.proofs.lemmas.List.{take_more_set}
+-- Lemmas on the frames of a record: one more block, and how long the lines of refusals are.
+use Rattle.std.proofs.Common.{◌≡◌, ℕ, ◌+◌, ◌*◌, ◌/◌, ◌%◌, ◌<◌, Bool, true, cond, ltb, List, [], ◌∷◌, ◌++◌, map, length, refl, ap, ◌∙◌, append_assoc, arith, length-append}
+use Rattle.std.proofs.lemmas.Bool.{lt-ltb}
 use Rattle.lines.specs.Output.{line, text}
 use Rattle.records.specs.Frames.{refusal_frame, wides}
 use Rattle.records.specs.declared.refusal.Refusal.{Refusal}
@@ -13,12 +13,13 @@ pub length_wides : (xs : List ℕ) → length (wides xs) ≡ 2 * length xs
 length_wides [] = refl
 length_wides (x ∷ xs) = let e = length_wides xs in omega arith
 
-pub take_two_set : (l : List ℕ) (n u v : ℕ) → n + 1 < length l → take (n + 1 + 1) (set (set l n u) (n + 1) v) ≡ take n l ++ u ∷ v ∷ []
-take_two_set l n u v h =
-    let k : n + 1 < length (set l n u) = omega (arith, length-set l n u) in
-    take_more_set (set l n u) (n + 1) v k
-    ∙ ap (λ r. r ++ v ∷ []) (take_more_set l n u (omega arith))
-    ∙ append_assoc (take n l) (u ∷ []) (v ∷ [])
+-- two elements are pushed onto a list with room for them
+pub pushed_two : (l m n : List ℕ) (cap u v : ℕ) (a b : Bool) → length l + 1 < cap → a ≡ ltb (length l) cap → m ≡ cond a (l ++ u ∷ []) l
+    → b ≡ ltb (length m) cap → n ≡ cond b (m ++ v ∷ []) m → n ≡ l ++ u ∷ v ∷ []
+pushed_two l m n cap u v a b h ea em eb en =
+    let one : m ≡ l ++ u ∷ [] = em ∙ ap (λ y. cond y (l ++ u ∷ []) l) (ea ∙ lt-ltb (length l) cap (omega arith)) in
+    let two : b ≡ true = eb ∙ lt-ltb (length m) cap (omega (arith, ap length one, length-append l (u ∷ []))) in
+    en ∙ ap (λ y. cond y (m ++ v ∷ []) m) two ∙ ap (λ r. r ++ v ∷ []) one ∙ append_assoc l (u ∷ []) (v ∷ [])
 
 -- 17 characters to a refusal
 pub length_refusals : (fs : List Refusal) → length (text (map refusal_frame fs)) ≡ 17 * length fs

@@ -1,6 +1,6 @@
 -- The frames that a record is made of.
-use Rattle.std.specs.Prelude.{ℕ, cond, List, [], ◌∷◌, take, nat_le}
-use Rattle.lines.specs.Output.{wide, put, place_after}
+use Rattle.std.specs.Prelude.{ℕ, cond, List, [], ◌∷◌, length, nat_le}
+use Rattle.lines.specs.Output.{wide}
 use Rattle.records.specs.declared.refusal.Refusal.{Refusal}
 use Rattle.records.specs.declared.totals.Counts.{Counts}
 use Rattle.records.specs.declared.seat.SeatReport.{SeatReport}
@@ -20,11 +20,8 @@ wides (b ∷ bs) = wide b (wides bs)
 
 -- e0 seat state round k_max and blocks(2 each)
 abbrev pub report_frame : ℕ → SeatReport → List ℕ
-report_frame seat r = 224 ∷ seat ∷ r.state ∷ r.round ∷ r.k_max ∷ wides (take r.count r.catalogue)
+report_frame seat r = 224 ∷ seat ∷ r.state ∷ r.round ∷ r.k_max ∷ wides r.catalogue.now
 
--- a report whose count is within its eight blocks is put; any other leaves all as it is
-abbrev pub put_report : List ℕ → ℕ → ℕ → SeatReport → List ℕ
-put_report xs at seat r = cond (nat_le r.count 8) (put xs at (report_frame seat r)) xs
-
-abbrev pub place_after_report : List ℕ → ℕ → ℕ → SeatReport → ℕ
-place_after_report xs at seat r = cond (nat_le r.count 8) (place_after xs at (report_frame seat r)) at
+-- the frame of a report of at most eight blocks; none of any other
+abbrev pub report_frames : ℕ → SeatReport → List (List ℕ)
+report_frames seat r = cond (nat_le (length r.catalogue.now) 8) (report_frame seat r ∷ []) []

@@ -4,4 +4,3 @@
 pub mod refusal;
 pub mod seat;
 pub mod totals;
-mod wide;

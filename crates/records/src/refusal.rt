@@ -1,10 +1,9 @@
 //! Lines that were refused.
 ghost use Rattle.std.specs.Prelude.{◌≡◌, map};
-ghost use Rattle.lines.specs.Output.{put_all, place_after_all};
+ghost use Rattle.lines.specs.Writing.{Puts};
 ghost use Rattle.records.specs.Frames.{refusal_frame};
 
-use crate::wide::{high, low};
-use lines::output::put_line;
+use lines::output::LineWriter;
 
 /// A line that was refused: its number, the refusal's number and layer, and the seat and subject that it names.
 #[derive(Clone, Copy)]
@@ -17,29 +16,30 @@ pub struct Refusal {
 }
 
 /// The frame of a refusal.
-fn refusal_frame(f: Refusal) -> [u8; 8]
-    ensures { result ≡ refusal_frame f }
-{
-    [
-        0xf0,
-        high(f.line),
-        low(f.line),
-        f.number,
-        f.layer,
-        f.seat,
-        high(f.subject),
-        low(f.subject),
-    ]
+impl From<Refusal> for [u8; 8] {
+    ghost from_gives = { λ f r. r ≡ refusal_frame f };
+
+    fn from(f: Refusal) -> [u8; 8] {
+        let [line_high, line_low] = f.line.to_be_bytes();
+        let [subject_high, subject_low] = f.subject.to_be_bytes();
+        [
+            0xf0,
+            line_high,
+            line_low,
+            f.number,
+            f.layer,
+            f.seat,
+            subject_high,
+            subject_low,
+        ]
+    }
 }
 
-/// Puts the lines of refusals from a place on, as long as they fit, and says where the next line may stand.
-pub fn put_refusals(out: &mut [u8], at: usize, refusals: &[Refusal]) -> usize
-    ensures buffer { out.new ≡ put_all out.old at (map refusal_frame refusals.now) }
-    ensures next { result ≡ place_after_all out.old at (map refusal_frame refusals.now) }
+/// Puts the lines of refusals, as long as they fit.
+pub fn put_refusals(writer: &mut LineWriter, refusals: &[Refusal])
+    ensures { Puts writer.old writer.new (map refusal_frame refusals.now) }
 {
-    let mut next = at;
-    for f in refusals {
-        next = put_line(out, next, &refusal_frame(*f));
+    for refusal in refusals {
+        writer.put(&<[u8; 8]>::from(*refusal));
     }
-    next
 }

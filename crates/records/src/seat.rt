@@ -1,65 +1,42 @@
 //! What is reported of a seat.
-ghost use Rattle.std.specs.Prelude.{◌≡◌, ℕ, ◌+◌, ◌*◌, ◌≤◌, take};
-ghost use Rattle.records.specs.Frames.{report_frame, put_report, place_after_report};
+ghost use Rattle.std.specs.Prelude.{◌≡◌, nat_le, length};
+ghost use Rattle.basics.specs.Elements.{elements_of, list_if};
+ghost use Rattle.lines.specs.Writing.{Puts};
+ghost use Rattle.records.specs.Frames.{report_frame, report_frames};
 
-use crate::wide::{high, low};
-use lines::output::put_line;
+use basics::inline_list::InlineList;
+use lines::output::LineWriter;
 
-/// Where a seat stands: its state (0 waiting, 1 in a round, 2 done), its round, the last round of its catalogue, and the blocks of that, the first `count` of the eight.
+/// Where a seat stands: its state (0 waiting, 1 in a round, 2 done), its round, the last round of its catalogue, and the blocks of that.
 #[derive(Clone, Copy)]
-pub struct SeatReport {
+pub struct SeatReport<'a> {
     pub state: u8,
     pub round: u8,
     pub k_max: u8,
-    pub catalogue: [u16; 8],
-    pub count: usize,
+    pub catalogue: &'a [u16],
 }
 
-/// The frame of a seat: it stands in the first 5 + 2 * count bytes.
-fn seat_frame(seat: u8, report: SeatReport) -> [u8; 21]
-    requires { report.count ≤ 8 }
-    ensures { take (5 + 2 * report.count) result ≡ report_frame seat report }
+/// The frame of a seat, if it has no more than eight blocks.
+fn seat_frame(seat: u8, report: SeatReport) -> Option<InlineList<u8, 21>>
+    ensures { elements_of result ≡ list_if (nat_le (length report.entry.catalogue.now) 8) (report_frame seat report.entry) }
 {
-    let mut frame = [
-        0xe0,
-        seat,
-        report.state,
-        report.round,
-        report.k_max,
-        0,
-        0,
-        0,
-        0,
-        0,
-        0,
-        0,
-        0,
-        0,
-        0,
-        0,
-        0,
-        0,
-        0,
-        0,
-        0,
-    ];
-    for i in 0..report.count {
-        let block = report.catalogue[i];
-        frame[5 + 2 * i] = high(block);
-        frame[6 + 2 * i] = low(block);
+    if report.catalogue.len() > 8 {
+        return None;
     }
-    frame
+    let mut frame = InlineList::from_slice(&[0xe0, seat, report.state, report.round, report.k_max])?;
+    for block in report.catalogue {
+        let [high, low] = block.to_be_bytes();
+        frame.push(high);
+        frame.push(low);
+    }
+    Some(frame)
 }
 
-/// Puts the line of a seat at a place where it fits, and says where the next may stand. A report that counts more than its eight blocks is left out.
-pub fn put_seat(out: &mut [u8], at: usize, seat: u8, report: SeatReport) -> usize
-    ensures buffer { out.new ≡ put_report out.old at seat report }
-    ensures next { result ≡ place_after_report out.old at seat report }
+/// Puts the line of a seat, if it fits. A report of more than eight blocks is left out.
+pub fn put_seat(writer: &mut LineWriter, seat: u8, report: SeatReport)
+    ensures { Puts writer.old writer.new (report_frames seat report.entry) }
 {
-    if report.count > 8 {
-        return at;
+    if let Some(frame) = seat_frame(seat, report) {
+        writer.put(frame.as_slice());
     }
-    let size = 5 + 2 * report.count;
-    let frame = seat_frame(seat, report);
-    put_line(out, at, &frame[..size])
 }

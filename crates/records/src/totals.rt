@@ -1,10 +1,9 @@
 //! How many calls a run had.
-ghost use Rattle.std.specs.Prelude.{◌≡◌};
-ghost use Rattle.lines.specs.Output.{put, place_after};
+ghost use Rattle.std.specs.Prelude.{◌≡◌, [], ◌∷◌};
+ghost use Rattle.lines.specs.Writing.{Puts};
 ghost use Rattle.records.specs.Frames.{counts_frame};
 
-use crate::wide::{high, low};
-use lines::output::put_line;
+use lines::output::LineWriter;
 
 /// The calls of a run, and how many of them were accepted and refused.
 #[derive(Clone, Copy)]
@@ -15,24 +14,28 @@ pub struct Counts {
 }
 
 /// The frame of the counts.
-fn counts_frame(c: Counts) -> [u8; 7]
-    ensures { result ≡ counts_frame c }
-{
-    [
-        0xef,
-        high(c.calls),
-        low(c.calls),
-        high(c.accepted),
-        low(c.accepted),
-        high(c.refused),
-        low(c.refused),
-    ]
+impl From<Counts> for [u8; 7] {
+    ghost from_gives = { λ c r. r ≡ counts_frame c };
+
+    fn from(c: Counts) -> [u8; 7] {
+        let [calls_high, calls_low] = c.calls.to_be_bytes();
+        let [accepted_high, accepted_low] = c.accepted.to_be_bytes();
+        let [refused_high, refused_low] = c.refused.to_be_bytes();
+        [
+            0xef,
+            calls_high,
+            calls_low,
+            accepted_high,
+            accepted_low,
+            refused_high,
+            refused_low,
+        ]
+    }
 }
 
-/// Puts the line of the counts at a place where it fits, and says where the next may stand.
-pub fn put_counts(out: &mut [u8], at: usize, counts: Counts) -> usize
-    ensures buffer { out.new ≡ put out.old at (counts_frame counts) }
-    ensures next { result ≡ place_after out.old at (counts_frame counts) }
+/// Puts the line of the counts, if it fits.
+pub fn put_counts(writer: &mut LineWriter, counts: Counts)
+    ensures { Puts writer.old writer.new (counts_frame counts ∷ []) }
 {
-    put_line(out, at, &counts_frame(counts))
+    writer.put(&<[u8; 7]>::from(counts));
 }

@@ -21,7 +21,7 @@ returns-in-Cards c =
     let p = model c.in-Ok.start.plan in
     let two : 2 ≡ line_now y + 1 = omega (arith, c.requires, c.if-not-advance.ensures.counts) in
     first_line sort (behind c.args.reader.now) (decoded (held y)) (shape c.decode.result) (behind y) (Ok p)
-    (ap (map decoded) c.if-not-advance.ensures.line_is) (c.decode.ensures ∙ ap decoded c.bytes.ensures) c.in-Ok.ensures.value
+    (ap (map decoded) c.if-not-advance.ensures.line_is) (c.decode.ensures ∙ ap decoded c.bytes.ensures) c.in-Ok.ensures
     ∙ ap (λ s. begun s (Ok p) (behind y)) c.in-Cards.is
     ∙ ap (λ k. collected Cards p [] k [] (behind y)) two
     ∙ ap (λ s. collected s p [] (line_now y + 1) [] (behind y)) (sym c.in-Cards.is)

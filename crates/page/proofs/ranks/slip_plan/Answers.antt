@@ -18,7 +18,7 @@ returns-in-Ok c =
     let y = c.read_ranks.new.reader in
     let read = c.in_ok-read_ranks.ensures.all in
     let made : model c.in-Ok.planned ≡ with_table t p =
-    same_ok (model c.in-Ok.planned) (with_table t p) (c.in-Ok.ensures ∙ ap (table_plan u) c.as_slice.ensures ∙ table_plan_is u p t c.requires.setup read.1) in
+    same_ok (model c.in-Ok.planned) (with_table t p) (c.in-Ok.ensures ∙ ap (table_plan u) c.as_slice.ensures ∙ table_plan_is u p t c.args.start.made read.1) in
     read.0 ∙ ap (λ q. collected Slips q [] (line_now y + 1) [] (behind y)) (sym made)
 
 pub returns-in-Err : goal.returns-in-Err
@@ -27,4 +27,4 @@ returns-in-Err c =
     let p = model c.args.start.plan in
     let t = contents c.read_ranks.new.table in
     let read = c.in_ok-read_ranks.ensures.all in
-    no_refusal c.in-Err.fault (with_table t p) (c.in-Err.ensures ∙ ap (table_plan u) c.as_slice.ensures ∙ table_plan_is u p t c.requires.setup read.1)
+    no_refusal c.in-Err.fault (with_table t p) (c.in-Err.ensures ∙ ap (table_plan u) c.as_slice.ensures ∙ table_plan_is u p t c.args.start.made read.1)

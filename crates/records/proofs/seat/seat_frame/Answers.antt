@@ -1,26 +1,25 @@
 -- One more block: its two bytes.
-use Rattle.std.proofs.Common.{◌≡◌, ℕ, ◌+◌, ◌*◌, ◌/◌, ◌%◌, List, [], ◌∷◌, ◌++◌, get_or, take, set, sym, ap, ◌∙◌, arith, length-set}
-use Rattle.std.proofs.lemmas.List.{take_more}
+use Rattle.std.proofs.Common.{rules, ◌≡◌, ◌<◌, ◌+◌, ◌*◌, ◌/◌, ◌%◌, ℕ, [], ◌∷◌, ◌++◌, List, length, get_or, take, ap, ◌∙◌, sym, arith}
+use Rattle.std.proofs.lemmas.List.{length-take-le, take_more}
+use Rattle.basics.specs.Elements.{elements}
 use Rattle.records.specs.Frames.{wides}
-use Rattle.records.proofs.FrameLaws.{wides_push, take_two_set}
+use Rattle.records.proofs.FrameLaws.{pushed_two, wides_push, length_wides}
 use Rattle.records.proofs.seat.seat_frame.Goals as goal
 
-pub loop-i-preserved : goal.loop-i-preserved
-loop-i-preserved c =
-    let i = c.loop-i.i in
-    let bs = c.args.report.catalogue in
-    let n = 5 + 2 * i in
+pub loop-block-preserved : goal.loop-block-preserved
+loop-block-preserved c =
+    let bs = c.args.report.catalogue.now in
+    let i = c.loop-block.block-index in
     let b = get_or bs i 0 in
+    let bytes = c.to_be_bytes.result in
     let head = λ (r : List ℕ). 224 ∷ c.args.seat ∷ c.args.report.state ∷ c.args.report.round ∷ c.args.report.k_max ∷ r in
-    let e : 5 + 2 * (i + 1) ≡ n + 1 + 1 = omega arith in
-    let g : 6 + 2 * i ≡ n + 1 = omega arith in
-    let more : wides (take (i + 1) bs) ≡ wides (take i bs) ++ b / 256 ∷ b % 256 ∷ [] = ap wides (take_more bs i 0 (omega arith)) ∙ wides_push (take i bs) b in (
-      ap (λ k. take k (set (set c.loop-i.frame n c.high.result) (6 + 2 * i) c.low.result)) e
-          ∙ ap (λ k. take (n + 1 + 1) (set (set c.loop-i.frame n c.high.result) k c.low.result)) g
-          ∙ take_two_set c.loop-i.frame n c.high.result c.low.result (omega arith)
-          ∙ ap (λ r. r ++ c.high.result ∷ c.low.result ∷ []) c.loop-i.invariant.0
-          ∙ ap (λ u. head (wides (take i bs) ++ u ∷ c.low.result ∷ [])) c.high.ensures
-          ∙ ap (λ u. head (wides (take i bs) ++ b / 256 ∷ u ∷ [])) c.low.ensures
-          ∙ ap head (sym more),
-      length-set (set c.loop-i.frame n c.high.result) (6 + 2 * i) c.low.result ∙ length-set c.loop-i.frame n c.high.result ∙ c.loop-i.invariant.1,
-    )
+    let room : length (elements c.loop-block.frame) + 1 < 21 =
+    omega (arith, ap length c.loop-block.invariant, length_wides (take i bs), length-take-le i bs (omega arith)) in
+    let high : get_or bytes 0 0 ≡ b / 256 = ap (λ l. get_or l 0 0) c.to_be_bytes.ensures ∙ omega arith in
+    let low : get_or bytes 1 0 ≡ b % 256 = ap (λ l. get_or l 1 0) c.to_be_bytes.ensures in
+    pushed_two (elements c.loop-block.frame) (elements c.push.new.self) (elements c.push-in-loop-block.new.self) 21 _ _ _ _ room
+    c.push.ensures.answer c.push.ensures.after c.push-in-loop-block.ensures.answer c.push-in-loop-block.ensures.after
+    ∙ ap (λ r. r ++ get_or bytes 0 0 ∷ get_or bytes 1 0 ∷ []) c.loop-block.invariant
+    ∙ ap (λ u. head (wides (take i bs) ++ u ∷ get_or bytes 1 0 ∷ [])) high
+    ∙ ap (λ u. head (wides (take i bs) ++ b / 256 ∷ u ∷ [])) low
+    ∙ ap head (sym (wides_push (take i bs) b) ∙ ap wides (sym (take_more bs i 0 (omega arith))))

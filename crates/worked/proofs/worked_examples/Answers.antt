@@ -1,6 +1,0 @@
--- The examples compute.
-use Rattle.worked.proofs.Computed.{worked_examples}
-use Rattle.worked.proofs.worked_examples.Goals as goal
-
-pub returns : goal.returns
-returns c = worked_examples
