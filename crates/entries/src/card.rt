@@ -5,7 +5,7 @@ ghost use Rattle.std.proofs.Common.{rules};
 use crate::entry::Entry;
 
 /// The find of this number in this store.
-#[derive(Clone, Copy)]
+#[derive(Clone, Copy, PartialEq, Eq, Debug)]
 pub struct Card {
     pub store: u16,
     pub find: u32,
@@ -19,6 +19,6 @@ impl Entry for Card {
     ghost turned = { Prim.search rules };
 
     fn is_like(&self, other: &Card) -> bool {
-        self.store == other.store && self.find == other.find
+        self == other
     }
 }

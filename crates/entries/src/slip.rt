@@ -5,7 +5,7 @@ ghost use Rattle.std.proofs.Common.{rules};
 use crate::entry::Entry;
 
 /// That the sherds of these two numbers join.
-#[derive(Clone, Copy)]
+#[derive(Clone, Copy, PartialEq, Eq, Debug)]
 pub struct Slip {
     pub one: u32,
     pub other: u32,
@@ -19,7 +19,6 @@ impl Entry for Slip {
     ghost turned = { Prim.search rules };
 
     fn is_like(&self, other: &Slip) -> bool {
-        (self.one == other.one && self.other == other.other)
-            || (self.one == other.other && self.other == other.one)
+        self == other || (self.one == other.other && self.other == other.one)
     }
 }
