@@ -47,7 +47,7 @@ sealable_allowed y w s kind x fits r =
     let a = and_parts (ltb s p.n) (leb 1 x && leb x p.rounds) body in
     let b = and_parts (leb 1 x) (leb x p.rounds) a.1 in
     ap (λ k. allowed k s x) e
-    ∙ allowed_round s x (omega (arith, ltb-true s p.n a.0, y.few)) (leb-true 1 x b.0) (omega (arith, leb-true x p.rounds b.1, y.last)))
+    ∙ allowed_round s x (omega (arith, ltb-true s p.n a.0, y.sizes.within.few_seats)) (leb-true 1 x b.0) (omega (arith, leb-true x p.rounds b.1, y.sizes.within.few_rounds)))
     (λ (ne : kind ≡ 6 → ⊥).
     let six = ne_eqb kind 6 ne in
     let two_four : (eqb kind 2 || eqb kind 4) ≡ true = grind (arith, nat_tests) in
@@ -57,11 +57,11 @@ sealable_allowed y w s kind x fits r =
     let d = and_parts (not (eqb x 0) && known p w x) (cond (eqb kind 2 || eqb kind 4) (ltb s p.n) (eqb s 0)) b.1 in
     let f = and_parts (not (eqb x 0)) (known p w x) d.0 in
     let seat : s < p.n = ltb-true s p.n (sym (cond-true (eqb kind 2 || eqb kind 4) (ltb s p.n) (eqb s 0) two_four) ∙ d.1) in
-    let cap : p.rounds * p.n ≤ 8 * 13 = mul-le-mul y.last y.few in
+    let cap : p.rounds * p.n ≤ 8 * 13 = mul-le-mul y.sizes.within.few_rounds y.sizes.within.few_seats in
     let high : x ≤ 312 =
     ⊎_elim (λ z. let q = eqb-true x 0 z in omega arith)
     (λ z. let q = ltb-true x (numbers p) (and_parts (ltb x (numbers p)) (w.made x) z).0 in omega (arith, cap))
     (or_cases (eqb x 0) (ltb x (numbers p) && w.made x) f.1) in
     let low : 1 ≤ x = ⊎_elim (λ (z : x ≡ 0). let q = eq-eqb x 0 z in let n = not-true _ f.0 in let bad : ◌≡◌ {A = Bool} true false = sym q ∙ n in absurd (let u : ◌≡◌ {A = ℕ} 0 1 = cc in omega arith)) (λ (z : x ≡ 0 → ⊥). omega arith) (cases_eq x 0) in
-    allowed_block kind s x two_four (omega (arith, y.few)) low high)
+    allowed_block kind s x two_four (omega (arith, y.sizes.within.few_seats)) low high)
     (cases_eq kind 6)

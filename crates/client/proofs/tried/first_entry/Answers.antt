@@ -27,14 +27,14 @@ taken_then false x y e = absurd (both_ways true (ap is_ok e) refl)
 
 pub returns : goal.returns
 returns g c =
-    let n = c.args.draw.n in
-    let R = c.args.draw.rounds in
+    let n = c.args.draw.sizes.seats in
+    let R = c.args.draw.sizes.rounds in
     let xs = c.args.labels.now in
     let fresh = fresh_plan n R (mirrored n) 0 0 0 in
     let p = model c.in_ok-plan.plan in
     let q = labelled n R xs in
     let drawn : p ≡ fresh =
-    ap (plan_or fresh) c.in_ok-plan.ensures ∙ ap (λ b. plan_or fresh (cond b (Ok fresh) (Err TooFewSeats))) (le-leb 1 n c.args.draw.some) in
+    ap (plan_or fresh) c.in_ok-plan.ensures ∙ ap (λ b. plan_or fresh (cond b (Ok fresh) (Err TooFewSeats))) (le-leb 1 n c.args.draw.sizes.within.some_seat) in
     let took : model c.set_entries.new.self ≡ q =
     c.set_entries.ensures.plan
     ∙ taken_then (leb (length xs) 128) (with_entries labels_alike xs p) p c.in_ok-set_entries.ensures.answer

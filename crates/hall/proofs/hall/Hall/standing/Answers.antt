@@ -10,9 +10,9 @@ pub returns : goal.returns
 returns g c =
     let h = c.args.self.now in
     let s = c.args.seat in
-    let low : s < h.plan.seats = omega (arith, c.seats.ensures.is, c.if-seat-seats.false) in
-    let index : c.capped-index.result.value ≡ s = omega (arith, c.capped-index.ensures, h.plan.few) in
+    let low : s < h.plan.sizes.seats = omega (arith, c.seats.ensures.is, c.if-seat-seats.false) in
+    let index : c.capped-index.result.value ≡ s = omega (arith, c.capped-index.ensures, h.plan.sizes.within.few_seats) in
     let good : honest (model h.plan) s ≡ true = ap (honest (model h.plan)) (sym index) ∙ sym c.if-not-is_honest.ensures in (
-      and_from (ltb s h.plan.seats) (honest (model h.plan) s) (lt-ltb _ _ low) good,
+      and_from (ltb s h.plan.sizes.seats) (honest (model h.plan) s) (lt-ltb _ _ low) good,
       subst (λ (k : ℕ). Stands c.standing_in.result ((world g.B.SealView.held h).seat k)) index c.standing_in.ensures,
     )
