@@ -5,7 +5,7 @@ use Rattle.client.specs.declared.mirror.Mirror.{Mirror}
 
 -- how many seats and rounds it has, if one was made
 abbrev pub sizes : Option Mirror → Option (ℕ × ℕ)
-sizes (Some d) = Some (d.n, d.rounds)
+sizes (Some d) = Some (d.sizes.seats, d.sizes.rounds)
 sizes None = None
 
 -- the sizes asked for, if a draw can have them

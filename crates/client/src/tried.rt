@@ -18,7 +18,7 @@ pub fn first_entry<B: SealBook + Drop>(
     labels: &[Label],
     inner: B,
 ) -> Result<Result<(), HallFault>, PlanFault>
-    ensures { MatchResult result (λ v. FirstEntry draw.n draw.rounds labels.now v) (λ f. entries_taken labels.now ≡ Err f) }
+    ensures { MatchResult result (λ v. FirstEntry draw.sizes.seats draw.sizes.rounds labels.now v) (λ f. entries_taken labels.now ≡ Err f) }
 {
     let mut plan = Plan::new(&draw, 0, 0, 0)?;
     plan.set_entries(labels)?;

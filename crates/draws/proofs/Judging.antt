@@ -1,31 +1,28 @@
 -- What a judged round has seen, and that a copied table has the same ranks.
-use Rattle.std.proofs.Common.{◌≡◌, ℕ, suc, ◌+◌, ◌-◌, ◌*◌, ◌<◌, ◌≤◌, Bool, true, false, cond, ◌&&◌, ◌||◌, eqb, ltb, leb, ◌⊎◌, List, length, get_or, Ok, sym, refl, ap, ◌∙◌, ap₂, ⊎_elim, add-one, arith}
-use Rattle.std.proofs.lemmas.Nat.{mul-add-lt, mul-le}
-use Rattle.std.proofs.lemmas.Bool.{cases_Bool, le-leb, lt-leb, lt-ltb, ltb-true, leb-true, and_parts, and_from, or_left, or_right, cond-true, cond-false}
+use Rattle.std.proofs.Common.{◌≡◌, ℕ, zero, suc, ◌+◌, ◌-◌, ◌*◌, ◌/◌, ◌<◌, ◌≤◌, Bool, true, false, cond, ◌&&◌, ◌||◌, eqb, ltb, leb, not, ◌⊎◌, Option, Some, None, List, length, get_or, slice_index, Ok, Err, sym, refl, ap, ◌∙◌, ap₂, ⊎_elim, arith, rules}
+use Rattle.std.proofs.lemmas.Nat.{mul-add-lt}
+use Rattle.std.proofs.lemmas.Bool.{cases_Bool, le-leb, lt-ltb, ltb-true, leb-true, and_parts, and_from, not-true, not-false, not_from_true, not_from_false, or_left, or_right, cond-true, cond-false}
+use Rattle.std.specs.Bool.{MatchBool, IsTrue}
+use Rattle.std.specs.List.{slice_range}
+use Rattle.std.proofs.lemmas.Grind.{common_steps}
+use Rattle.std.specs.Option.{option_map, IsSomeAnd}
+use Rattle.std.proofs.lemmas.Option.{none-some}
+use Rattle.std.proofs.Math.Nat.{lt_of_mul-lt-mul_right, mul-div_right, mul_comm}
+use Rattle.std.specs.Iterator.Runs.{Run, IsChunksExactRun, AllItemsGive, AnyItemGives}
+use denote.Ref.{Bor}
+use denote.Param.Members.{Mut, Called}
 use Rattle.basics.specs.Bit.{bit}
 use Rattle.basics.specs.Count.{some_below}
-use Rattle.basics.specs.Put.{put_below}
-use Rattle.basics.proofs.BitLaws.{put_inside}
 use Rattle.basics.proofs.CountLaws.{some_same, some_here}
 use Rattle.basics.specs.Numbers.{only_if}
-use Rattle.draws.specs.Ranks.{drawn, answered, table_rank, misplaced, some_misplaced, once_at}
+use Rattle.draws.specs.Ranks.{drawn, Bounds, answered, table_rank, misplaced, some_misplaced, once_at}
 use Rattle.draws.specs.Made.{in_bounds, table_made}
+use Rattle.draws.specs.declared.fault.DrawFault.TheVariants.{NotOnce}
 
 module _ (rank : ℕ → ℕ) where
   -- the ranks of the seats before s
   abbrev pub Seen : ℕ → ℕ → Type 0
   Seen seen s = (j : ℕ) → bit seen j ≡ some_below (λ t. eqb (rank t) j) s
-
-  joined : (b x : Bool) → cond b true x ≡ (x || b)
-  joined true true = refl
-  joined true false = refl
-  joined false true = refl
-  joined false false = refl
-
-  pub seen_more : (seen after s : ℕ) → rank s < 16 → Seen seen s → bit after ≡ put_below 16 (rank s) true (bit seen) → Seen after (s + 1)
-  seen_more seen after s low h e = λ j.
-      ap (λ g. g j) (e ∙ put_inside 16 (rank s) true (bit seen) low) ∙ joined (eqb (rank s) j) (bit seen j)
-      ∙ ap (λ b. b || eqb (rank s) j) (h j) ∙ sym (ap (some_below (λ t. eqb (rank t) j)) (add-one s))
 
   -- the first seat that is misplaced
   pub found : (n s seen : ℕ) → s < n → Seen seen s → (n ≤ rank s) ⊎ (bit seen (rank s) ≡ true) → some_below (misplaced n rank) n ≡ true
@@ -36,11 +33,6 @@ module _ (rank : ℕ → ℕ) where
       (λ (twice : bit seen (rank s) ≡ true). or_right (leb n (rank s)) (some_below (λ t. eqb (rank t) (rank s)) s) (sym (before (rank s)) ∙ twice))
       why)
 
-  pub good_more : (n s seen : ℕ) → Seen seen s → rank s < n → bit seen (rank s) ≡ false → some_below (misplaced n rank) s ≡ false → some_below (misplaced n rank) (s + 1) ≡ false
-  good_more n s seen before low fresh good =
-      ap (some_below (misplaced n rank)) (add-one s)
-      ∙ ap₂ ◌||◌ good (ap₂ ◌||◌ (lt-leb n (rank s) low) (sym (before (rank s)) ∙ fresh))
-
 -- a cell inside the table
 module _ (n R : ℕ) where
   pub cell_inside : (xs : List ℕ) (j s : ℕ) → j < R → s < n → table_rank n R xs (suc j) s ≡ get_or xs (j * n + s) 0
@@ -50,10 +42,12 @@ module _ (n R : ℕ) where
       ∙ ap (λ k. get_or xs (k * n + s) 0) e
 
   -- a round of the table is judged by its own cells
-  pub round_same : (xs : List ℕ) (j : ℕ) → j < R → some_below (misplaced n (λ s. get_or xs (j * n + s) 0)) n ≡ some_below (misplaced n (table_rank n R xs (suc j))) n
-  round_same xs j h =
-      some_same _ _ n (λ s g. ap₂ ◌||◌ (ap (leb n) (sym (cell_inside xs j s h g)))
-      (some_same _ _ s (λ t lt. ap₂ eqb (sym (cell_inside xs j t h (omega arith))) (sym (cell_inside xs j s h g)))))
+  pub round_same : (xs ys : List ℕ) (j : ℕ) → j < R → length ys ≡ n → ((s d : ℕ) → s < n → get_or ys s d ≡ get_or xs (j * n + s) d)
+      → some_below (misplaced (length ys) (slice_index ys)) (length ys) ≡ some_below (misplaced n (table_rank n R xs (suc j))) n
+  round_same xs ys j h len cells =
+      let at : (s : ℕ) → s < n → get_or ys s 0 ≡ table_rank n R xs (suc j) s = (λ s g. cells s 0 g ∙ sym (cell_inside xs j s h g)) in
+      ap (λ m. some_below (misplaced m (slice_index ys)) m) len
+      ∙ some_same _ _ n (λ s g. ap₂ ◌||◌ (ap (leb n) (at s g)) (some_same _ _ s (λ t lt. ap₂ eqb (at t (omega arith)) (at s g))))
 
   -- tables that agree in the first n times R places list the same ranks
   pub table_same : (xs ys : List ℕ) → ((i : ℕ) → i < n * R → get_or xs i 0 ≡ get_or ys i 0) → table_rank n R xs ≡ table_rank n R ys
@@ -69,30 +63,66 @@ module _ (n R : ℕ) where
       (cases_Bool (drawn n R k s))) in
       λ i k s. at k s i
 
-  -- the sizes of a table, and of a round in it
-  pub total_small : n ≤ 13 → R ≤ 8 → n * R ≤ 104
-  total_small few short = mul-le n R 13 8 few short
-
-  pub round_fits : (j len : ℕ) → j < R → n * R ≤ len → j * n + n ≤ len
-  round_fits j len h fits = omega (arith, mul-le (j + 1) n R n (omega arith) (omega arith))
-
-  pub cell_fits : (k s : ℕ) → 1 ≤ k → k ≤ R → s < n → n ≤ 13 → R ≤ 8 → (k - 1) * n + s < 104
-  cell_fits k s lo hi h few short =
-      let low : k - 1 < R = omega arith in
-      omega (arith, mul-add-lt (k - 1) n s R low h, total_small few short)
-
   -- the answer to a question inside the table
-  pub cell_answered : (xs : List ℕ) (k s : ℕ) → 1 ≤ k → k ≤ R → s < n → n ≤ 13 → some_misplaced n R (table_rank n R xs) ≡ false →
+  pub cell_answered : Bounds n R → (xs : List ℕ) (k s : ℕ) → drawn n R k s ≡ true → some_misplaced n R (table_rank n R xs) ≡ false →
       only_if (leb 0 (get_or xs ((k - 1) * n + s) 0) && leb (get_or xs ((k - 1) * n + s) 0) 12) (get_or xs ((k - 1) * n + s) 0) ≡ answered n R (table_rank n R xs) k s
-  cell_answered xs k s lo hi h few good =
-      let inside : drawn n R k s ≡ true = and_from _ _ (lt-ltb s n h) (and_from _ _ (le-leb 1 k lo) (le-leb k R hi)) in
+  cell_answered sizes xs k s inside good =
+      let seat = and_parts (ltb s n) (leb 1 k && leb k R) inside in
+      let round = and_parts (leb 1 k) (leb k R) seat.1 in
       let cell : table_rank n R xs k s ≡ get_or xs ((k - 1) * n + s) 0 = cond-true (drawn n R k s) (get_or xs ((k - 1) * n + s) 0) 0 inside in
-      let low : table_rank n R xs k s < n = (once_at n R (table_rank n R xs) good k lo hi).below s h in
-      let small : get_or xs ((k - 1) * n + s) 0 ≤ 12 = omega arith in
+      let low : table_rank n R xs k s < n = (once_at n R (table_rank n R xs) good k (leb-true 1 k round.0) (leb-true k R round.1)).below s (ltb-true s n seat.0) in
+      let small : get_or xs ((k - 1) * n + s) 0 ≤ 12 = omega (arith, sizes.few_seats) in
       ap (λ b. only_if b (get_or xs ((k - 1) * n + s) 0)) (and_from _ _ (le-leb 0 _ (omega arith)) (le-leb _ 12 small)) ∙ ap (only_if true) (sym cell) ∙ sym (ap (λ b. only_if b (table_rank n R xs k s)) inside)
 
-  -- a table that passes is made
-  pub table_passes : (xs : List ℕ) → in_bounds n R ≡ true → n * R ≤ length xs → some_misplaced n R (table_rank n R xs) ≡ false →
-      table_made n R xs ≡ Ok (record { seats = n; rounds = R; rank = table_rank n R xs })
-  table_passes xs sized long good =
-      cond-true (in_bounds n R) _ _ sized ∙ cond-true (leb (n * R) (length xs)) _ _ (le-leb _ _ long) ∙ cond-false (some_misplaced n R (table_rank n R xs)) _ _ good
+  -- what is made of the ranks that a table begins with
+  pub front_same : (xs ys : List ℕ) (m : ℕ) → m ≡ n * R → m ≤ length xs → ys ≡ slice_range xs 0 m → table_rank n R ys ≡ table_rank n R xs
+  front_same xs ys m e long front = table_same ys xs (λ i h. grind (arith, common_steps))
+
+  pub table_judged : Bounds n R → (xs : List ℕ) (f : ℕ → ℕ → ℕ) → n * R ≤ length xs → f ≡ table_rank n R xs
+      → cond (some_misplaced n R f) (Err NotOnce) (Ok (record { seats = n; rounds = R; rank = f })) ≡ table_made n R xs
+  table_judged sizes xs f long e =
+      let sized : in_bounds n R ≡ true = search rules in
+      ap (λ h. cond (some_misplaced n R h) (Err NotOnce) (Ok (record { seats = n; rounds = R; rank = h }))) e
+      ∙ sym (cond-true (in_bounds n R) _ _ sized ∙ cond-true (leb (n * R) (length xs)) _ _ (le-leb _ _ long))
+
+-- where each below a bound fails, none passes
+pub none_from : (f : ℕ → Bool) (n : ℕ) → ((k : ℕ) → k < n → f k ≡ false) → some_below f n ≡ false
+none_from f zero h = refl
+none_from f (suc n) h = ap₂ ◌||◌ (none_from f n (λ k lt. h k (omega arith))) (h n (omega arith))
+
+some_there : {A : Type 0} (o : Option A) (y : A) → option_map (λ x. x) o ≡ Some y → (x : A) × (o ≡ Some x)
+some_there None y e = absurd (none-some y e)
+some_there (Some x) y e = (x, refl)
+
+some_and : {A : Type 0} (o : Option A) (P : A → Type 0) → IsSomeAnd o P → (x : A) × (o ≡ Some x) × P x
+some_and None P h = absurd h
+some_and (Some x) P h = (x, refl, h)
+
+-- the judgement of all rounds of a table, where each is judged by its own ranks
+module _ {F : Type 0} (g : Mut F (Bor (List ℕ) × Unit {0}) Bool) (f : F) where
+  abbrev pub Judges : Type 0
+  Judges = (x : Bor (List ℕ)) (b : Bool) (f' : F) → Called g f (x, tt) b f'
+      → (f' ≡ f) × (b ≡ not (some_below (misplaced (length x.now) (slice_index x.now)) (length x.now)))
+
+module _ {S F : Type 0} {steps : S → Option (Bor (List ℕ)) → S → Type 0} (p : Run steps) {g : Mut F (Bor (List ℕ) × Unit {0}) Bool} {f : F}
+    (n R : ℕ) (xs : List ℕ) (some : 1 ≤ n) (long : length xs ≡ n * R) (rounds : IsChunksExactRun p n xs) where
+  answer : Judges g f → (j : ℕ) (x : Bor (List ℕ)) (b : Bool) → p.at j ≡ Some x → Called g f (x, tt) b f
+      → (j < R) × (b ≡ not (some_below (misplaced n (table_rank n R xs (suc j))) n))
+  answer judges j x b e called =
+      let part = rw e at (rounds.2 j) in
+      let low : j < R = lt_of_mul-lt-mul_right n (omega (arith, part.1, mul_comm n R)) in
+      (low, (judges x b f called).1 ∙ ap not (round_same n R xs x.now j low part.0 part.2.2))
+
+  pub all_judged : (r : Bool) → Bor (List ℕ) → MatchBool r (IsTrue p.whole × AllItemsGive p g f true) (AnyItemGives p g f false) → Judges g f
+      → r ≡ not (some_misplaced n R (table_rank n R xs))
+  all_judged true d m judges =
+      let all : p.len ≡ R = rounds.1 m.0 ∙ ap (λ l. l / n) long ∙ mul-div_right R some in
+      let good = m.1 (λ x b f' called. (judges x.0 b f' called).0) in
+      sym (not_from_false _ (none_from _ R (λ j h.
+      let x = some_there (p.at j) (get_or p.items j d) (p.reads j d (omega arith)) in
+      not-true _ (sym (answer judges j x.0 true x.1 (rw x.1 at (good j))).1))))
+  all_judged false d m judges =
+      let found = m (λ x b f' called. (judges x.0 b f' called).0) in
+      let x = some_and (p.at found.0) _ found.2 in
+      let it = answer judges found.0 x.0 false x.1 x.2 in
+      sym (not_from_true _ (some_here _ R found.0 it.0 (not-false _ (sym it.1))))

@@ -32,10 +32,10 @@ table_made n R xs =
 
 -- what a rotation, if one was made, says
 abbrev pub rotation_means : Result Rotation DrawFault → Result Meaning DrawFault
-rotation_means (Ok d) = Ok (record { seats = d.n; rounds = d.rounds; rank = rotated d.n })
+rotation_means (Ok d) = Ok (record { seats = d.sizes.seats; rounds = d.sizes.rounds; rank = rotated d.sizes.seats })
 rotation_means (Err f) = Err f
 
 -- what a table draw, if one was made, says
 abbrev pub table_means : Result TableDraw DrawFault → Result Meaning DrawFault
-table_means (Ok d) = Ok (record { seats = d.n; rounds = d.rounds; rank = table_rank d.n d.rounds d.ranks })
+table_means (Ok d) = Ok (record { seats = d.sizes.seats; rounds = d.sizes.rounds; rank = table_rank d.sizes.seats d.sizes.rounds d.ranks })
 table_means (Err f) = Err f

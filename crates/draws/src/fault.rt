@@ -3,7 +3,7 @@ ghost use Rattle.std.specs.Prelude.{◌≡◌};
 ghost use Rattle.draws.specs.Faults.{draw_fault_number};
 
 /// The refusals of a draw, in the order in which they are judged.
-#[derive(Clone, Copy)]
+#[derive(Clone, Copy, PartialEq, Eq, Debug)]
 pub enum DrawFault {
     /// Not from 1 to 13 seats, or not from 1 to 8 rounds.
     Sizes,

@@ -4,4 +4,5 @@
 pub mod draw;
 pub mod fault;
 pub mod rotation;
+pub mod sizes;
 pub mod table;

@@ -16,7 +16,7 @@ known_round x w b h =
     (λ (ne : b ≡ 0 → ⊥).
     let low : b < numbers p = ⊎_elim (λ z. absurd (ne (eqb-true b 0 z))) (λ z. ltb-true b (numbers p) (and_parts (ltb b (numbers p)) (w.made b) z).0) (or_cases (eqb b 0) (ltb b (numbers p) && w.made b) h) in
     let third : (b - 1) / 3 < p.rounds * p.n = omega arith in
-    let round : (b - 1) / 3 / p.n < p.rounds = (div-lt_iff_lt-mul x.some).1 third in
+    let round : (b - 1) / 3 / p.n < p.rounds = (div-lt_iff_lt-mul x.sizes.within.some_seat).1 third in
     let is : round_of p b ≡ (b - 1) / 3 / p.n + 1 = cond-false (eqb b 0) 0 ((b - 1) / 3 / p.n + 1) (ne_eqb b 0 ne) in
-    omega (arith, is, round, x.last))
+    omega (arith, is, round, x.sizes.within.few_rounds))
     (cases_eq b 0)

@@ -1,6 +1,7 @@
 -- Sets of places: what is like none of them, and what one place more adds.
 use Rattle.std.proofs.Common.{◌≡◌, ℕ, ◌<◌, ◌≤◌, Bool, true, false, not, ◌&&◌, ◌||◌, eqb, ltb, List, [], ◌∷◌, ◌++◌, get_or, sym, refl, ap, ◌∙◌, inl, inr, ⊎_elim, arith}
 use Rattle.std.proofs.lemmas.Bool.{both_ways, cases_Bool, cases_eq, and_parts, and_from, and_left, and_right, or_cases, or_left, or_right, not_from_true, not_from_false, eqb-true, eq-eqb, ne_eqb, lt-ltb, le-ltb}
+use Rattle.std.specs.List.{list_all}
 use Rattle.basics.specs.Bit.{bit, Meets}
 use Rattle.basics.specs.Put.{put, put_below}
 use Rattle.basics.proofs.BitLaws.{put_here, put_there, put_inside}
@@ -9,6 +10,11 @@ use Rattle.model.specs.World.{unlike_all}
 use Rattle.plans.specs.declared.plan.Plan.{Plan}
 use Rattle.plans.specs.Planned.{model}
 use Rattle.plans.specs.Places.{among, SetOf}
+
+-- an entry that is like none of a list, as a test of all of them
+pub unlike_listed : (p : Model) (x : ℕ) (ys : List ℕ) → list_all (λ y. not (p.like x y)) ys ≡ unlike_all p x ys
+unlike_listed p x [] = refl
+unlike_listed p x (y ∷ ys) = ap (λ b. not (p.like x y) && b) (unlike_listed p x ys)
 
 like_none : (p : Model) (x : ℕ) (ys : List ℕ) → ((y : ℕ) → among ys y ≡ true → p.like x y ≡ false) → unlike_all p x ys ≡ true
 like_none p x [] h = refl

@@ -11,12 +11,12 @@ use Rattle.plans.specs.declared.plan.Plan.{Plan}
 -- the plan of the rules
 abbrev pub model : Plan → Model
 model x = record {
-  n = x.seats;
+  n = x.sizes.seats;
   t = x.most_corrupt;
-  rounds = x.rounds;
+  rounds = x.sizes.rounds;
   d = x.d;
   e = x.e;
-  rank = rank_in x.seats x.rounds x.ranks;
+  rank = rank_in x.sizes.seats x.sizes.rounds x.ranks;
   corrupt = bit x.corrupt;
   entries = x.entries;
   like = like_in x.entries x.likeness;

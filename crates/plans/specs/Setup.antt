@@ -1,5 +1,5 @@
 -- Setting a plan up: what taking a draw, naming a corrupt seat and taking entries answer, and the plan after.
-use Rattle.std.specs.Prelude.{ℕ, zero, suc, ◌+◌, ◌*◌, Bool, true, false, cond, not, ◌&&◌, List, [], ◌∷◌, length, Some, None, Ok, Err, Option, Result, nat_le, nat_lt}
+use Rattle.std.specs.Prelude.{ℕ, ◌+◌, ◌*◌, Bool, true, false, cond, not, ◌&&◌, List, length, Some, None, Ok, Err, Option, Result, nat_le, nat_lt, slice_get}
 use Rattle.basics.specs.Put.{put}
 use Rattle.basics.specs.Count.{tally}
 use Rattle.model.specs.Setup.{Plan as Model}
@@ -58,12 +58,6 @@ with_corrupt s p = record {
   like = p.like;
 }
 
--- the entry at a place
-abbrev pub entry_at : {E : Type 0} → List E → ℕ → Option E
-entry_at [] i = None
-entry_at (x ∷ xs) zero = Some x
-entry_at (x ∷ xs) (suc i) = entry_at xs i
-
 -- whether both are there and alike
 abbrev pub both_alike : {E : Type 0} → (E → E → Bool) → Option E → Option E → Bool
 both_alike alike (Some x) (Some y) = alike x y
@@ -73,7 +67,7 @@ both_alike alike None None = false
 
 -- whether two places of a table hold like entries
 abbrev pub places_alike : {E : Type 0} → (E → E → Bool) → List E → ℕ → ℕ → Bool
-places_alike alike xs i j = both_alike alike (entry_at xs i) (entry_at xs j)
+places_alike alike xs i j = both_alike alike (slice_get xs i) (slice_get xs j)
 
 -- the plan with these entries in place of those before
 abbrev pub with_entries : {E : Type 0} → (E → E → Bool) → List E → Model → Model

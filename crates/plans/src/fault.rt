@@ -6,7 +6,7 @@ ghost use Rattle.plans.specs.Faults.{plan_fault_number, plan_fault_seat};
 use draws::fault::DrawFault;
 
 /// The refusals of a plan, with those of its draw.
-#[derive(Clone, Copy)]
+#[derive(Clone, Copy, PartialEq, Eq, Debug)]
 pub enum PlanFault {
     /// the draw was refused
     Draw(DrawFault),

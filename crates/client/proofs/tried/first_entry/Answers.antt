@@ -11,10 +11,10 @@ use Rattle.client.proofs.tried.first_entry.Goals as goal
 
 pub returns : goal.returns
 returns g c =
-    let n = c.args.draw.n in
-    let R = c.args.draw.rounds in
+    let n = c.args.draw.sizes.seats in
+    let R = c.args.draw.sizes.rounds in
     let xs = c.args.labels.now in
-    let made = rw (le-leb 1 n c.args.draw.some) at c.in_ok-plan.ensures in
+    let made = rw (le-leb 1 n c.args.draw.sizes.within.some_seat) at c.in_ok-plan.ensures in
     let drawn : model c.in_ok-plan.plan ≡ fresh_plan n R (mirrored n) 0 0 0 = cc in
     let taken : model c.set_entries.new.self ≡ with_entries labels_alike xs (model c.in_ok-plan.plan) = grind (arith, common_steps) in
     let took : model c.set_entries.new.self ≡ labelled n R xs = taken ∙ ap (with_entries labels_alike xs) drawn in

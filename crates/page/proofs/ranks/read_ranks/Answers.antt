@@ -92,5 +92,5 @@ loop-k-preserved c =
       c.push_all.ensures.space ∙ c.loop-k.invariant.1,
       omega (arith, ap length now, length-append t xs, c.loop-k.invariant.2, long, add-mul k 1 p.n),
       omega (arith, c.if-not-advance.ensures.counts, c.loop-k.invariant.3),
-      λ _. ap (table_made p.n (k + 1)) now ∙ made_is p.n (k + 1) (t ++ xs) (meant c.in-Ok.field-0.n c.in-Ok.field-0.rounds c.in-Ok.field-0.ranks) b l drawn ∙ ap (λ r. Ok (meant p.n (k + 1) r)) (sym now),
+      λ _. ap (table_made p.n (k + 1)) now ∙ made_is p.n (k + 1) (t ++ xs) (meant c.in-Ok.field-0.sizes.seats c.in-Ok.field-0.sizes.rounds c.in-Ok.field-0.ranks) b l drawn ∙ ap (λ r. Ok (meant p.n (k + 1) r)) (sym now),
     )

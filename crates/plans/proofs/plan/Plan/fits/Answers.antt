@@ -1,5 +1,5 @@
-use Rattle.std.proofs.Common.{◌&&◌, ltb, sym, ap, ◌∙◌}
-use Rattle.std.proofs.lemmas.Bool.{lt-ltb, le-ltb, and_left}
+use Rattle.std.proofs.Common.{◌&&◌, sym, ap, ◌∙◌}
+use Rattle.std.proofs.lemmas.Bool.{lt-ltb}
 use Rattle.model.specs.World.{unlike_all}
 use Rattle.plans.specs.Planned.{model}
 use Rattle.plans.proofs.Places.{meets_unlike}
@@ -11,10 +11,3 @@ returns-then-x-self c ys is =
     let x = c.args.x in
     meets_unlike c.args.self.now x c.args.set c.meets.result c.if-x-self.true c.meets.ensures ys is
     ∙ sym (ap (λ b. b && unlike_all p x ys) (lt-ltb x p.entries c.if-x-self.true))
-
-pub returns-else-x-self : goal.returns-else-x-self
-returns-else-x-self c ys is =
-    let p = model c.args.self.now in
-    let x = c.args.x in
-    let out = le-ltb x p.entries c.if-x-self.false in
-    out ∙ sym (and_left (ltb x p.entries) (unlike_all p x ys) out)
