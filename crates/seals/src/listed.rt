@@ -1,8 +1,9 @@
 //! The seal book that lists its seals, oldest first.
-ghost use Rattle.std.specs.Prelude.{◌≡◌, ◌≤◌, true, ◌==◌, ◌&&◌, count_by};
+ghost use Rattle.std.specs.Prelude.{◌≡◌, ◌≤◌, true, not, ◌==◌, ◌&&◌, [], ◌∷◌, ◌++◌, count_by, if◌then◌else◌};
 ghost use Rattle.basics.specs.Contents.{contents, room};
 ghost use Rattle.seals.specs.Lending.{MakesBook};
-ghost use Rattle.seals.specs.Listed.{sound};
+ghost use Rattle.seals.specs.Listed.{listed, list_holds, list_inside, sound};
+ghost use Rattle.seals.specs.Seals.{allowed, added};
 
 use crate::book::{SealBook, SealView};
 use crate::fault::ShortBuffer;
@@ -18,8 +19,6 @@ pub struct ListedBook<'a> {
 }
 
 impl<'a> ListedBook<'a> {
-    ghost use Rattle.std.specs.Prelude.{[]};
-
     /// An empty book, with room for every seal that there can be.
     pub fn new(records: &'a mut [SealRecord; 8216]) -> ListedBook<'a>
         ensures { contents result.records ≡ [] }
@@ -30,8 +29,6 @@ impl<'a> ListedBook<'a> {
 }
 
 impl<'a> TryFrom<&'a mut [SealRecord]> for ListedBook<'a> {
-    ghost use Rattle.std.specs.Prelude.{[]};
-
     type Error = ShortBuffer<'a, SealRecord>;
 
     ghost try_from_gives = { λ records. MakesBook 8216 records (λ book. contents book.records ≡ []) };
@@ -49,6 +46,14 @@ impl<'a> TryFrom<&'a mut [SealRecord]> for ListedBook<'a> {
     }
 }
 
+/// Whether the list has the record.
+// (`contains` compares a group of records at a time: with it, a call of the slip hall took some 100 instructions more)
+fn lists(records: &[SealRecord], wanted: SealRecord) -> bool
+    ensures { result ≡ listed records.now wanted.kind wanted.seat wanted.subject }
+{
+    records.iter().any(|x| *x == wanted)
+}
+
 /// How many records of the list have the kind and the subject.
 fn count_of(records: &[SealRecord], kind: u8, subject: u16) -> usize
     ensures { result ≡ count_by (λ x. x.kind == kind && x.subject == subject) records.now }
@@ -60,8 +65,6 @@ fn count_of(records: &[SealRecord], kind: u8, subject: u16) -> usize
 }
 
 impl<'a> SealView for ListedBook<'a> {
-    ghost use Rattle.seals.specs.Listed.{list_holds, list_inside};
-
     ghost held = { λ x. list_holds (contents x.records) };
 
     ghost inside = { λ x. list_inside (contents x.records) };
@@ -72,7 +75,7 @@ impl<'a> SealView for ListedBook<'a> {
             seat,
             subject,
         };
-        record.is_allowed() && self.records.as_slice().contains(&record)
+        record.is_allowed() && lists(self.records.as_slice(), record)
     }
 
     fn count(&self, kind: u8, subject: u16) -> u8 {
@@ -81,10 +84,6 @@ impl<'a> SealView for ListedBook<'a> {
 }
 
 impl<'a> SealBook for ListedBook<'a> {
-    ghost use Rattle.std.specs.Prelude.{not, [], ◌∷◌, ◌++◌, if◌then◌else◌};
-    ghost use Rattle.seals.specs.Seals.{allowed, added};
-    ghost use Rattle.seals.specs.Listed.{list_holds};
-
     fn clear(&mut self) {
         self.records.clear();
     }
@@ -99,7 +98,7 @@ impl<'a> SealBook for ListedBook<'a> {
             seat,
             subject,
         };
-        if !record.is_allowed() || self.records.as_slice().contains(&record) {
+        if !record.is_allowed() || lists(self.records.as_slice(), record) {
             return false;
         }
         self.records.push(record)

@@ -8,12 +8,12 @@ use Rattle.seals.proofs.AddedLaws.{not_added}
 use Rattle.seals.proofs.RoomLaws.{can, room_left}
 use Rattle.seals.proofs.ListLaws.{sound_push, list_sealed}
 use Rattle.seals.proofs.listed.ListedBookSealBook.seal.Goals as goal
-use Rattle.seals.proofs.listed.ListedBookSealBook.seal.Goals.{After-push, then-not-is_allowed-via-then-not-is_allowed, then-not-is_allowed-via-else-not-is_allowed+then-contains}
+use Rattle.seals.proofs.listed.ListedBookSealBook.seal.Goals.{After-push, then-not-is_allowed-via-then-not-is_allowed, then-not-is_allowed-via-else-not-is_allowed+then-lists}
 
 pub returns-then-not-is_allowed-clause-after : goal.returns-then-not-is_allowed-clause-after
 returns-then-not-is_allowed-clause-after c =
     not_added (list_holds (contents c.args.self.now.records)) c.args.kind c.args.seat c.args.subject
-    (λ ok. elim c.then-not-is_allowed.branch [ then-not-is_allowed-via-then-not-is_allowed w ↦ grind arith | then-not-is_allowed-via-else-not-is_allowed+then-contains w ↦ grind arith ])
+    (λ ok. elim c.then-not-is_allowed.branch [ then-not-is_allowed-via-then-not-is_allowed w ↦ grind arith | then-not-is_allowed-via-else-not-is_allowed+then-lists w ↦ grind arith ])
 
 -- the seal that is pushed, and the list before
 abbrev new : After-push → SealRecord
@@ -26,7 +26,7 @@ can_be : (c : After-push) → can (new c) ≡ true
 can_be c = sym c.is_allowed.ensures ∙ c.if-not-is_allowed.false
 
 is_new : (c : After-push) → listed (old c) c.args.kind c.args.seat c.args.subject ≡ false
-is_new c = sym (ap (λ l. listed l c.args.kind c.args.seat c.args.subject) c.as_slice.ensures) ∙ sym c.contains.ensures.value ∙ c.if-contains.false
+is_new c = sym (ap (λ l. listed l c.args.kind c.args.seat c.args.subject) c.as_slice.ensures) ∙ sym c.lists.ensures ∙ c.if-lists.false
 
 finds_room : (c : After-push) → c.push.result ≡ true
 finds_room c =
