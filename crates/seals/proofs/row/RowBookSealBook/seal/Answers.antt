@@ -7,6 +7,9 @@ use Rattle.seals.proofs.RowLaws.{row_sealed}
 use Rattle.seals.proofs.row.RowBookSealBook.seal.Goals as goal
 use Rattle.seals.proofs.row.RowBookSealBook.seal.Goals.{then-seat-ge13-via-then-seat-ge13, then-seat-ge13-via-else-seat-ge13+then-has}
 
+pub returns-in_default-clause-after : goal.returns-in_default-clause-after
+returns-in_default-clause-after c = not_added (row_holds c.args.self.now.masks.now) c.args.kind c.args.seat c.args.subject (λ ok. grind (arith, nat_tests))
+
 pub returns-then-seat-ge13-clause-after : goal.returns-then-seat-ge13-clause-after
 returns-then-seat-ge13-clause-after c =
     not_added (row_holds c.args.self.now.masks.now) c.args.kind c.args.seat c.args.subject
