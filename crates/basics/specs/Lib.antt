@@ -4,3 +4,4 @@ pub mod Put
 pub mod Bit
 pub mod Numbers
 pub mod Contents
+pub mod Elements

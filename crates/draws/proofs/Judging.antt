@@ -83,13 +83,13 @@ module _ (n R : ℕ) where
 
   -- the answer to a question inside the table
   pub cell_answered : (xs : List ℕ) (k s : ℕ) → 1 ≤ k → k ≤ R → s < n → n ≤ 13 → some_misplaced n R (table_rank n R xs) ≡ false →
-      only_if (ltb (get_or xs ((k - 1) * n + s) 0) 13) (get_or xs ((k - 1) * n + s) 0) ≡ answered n R (table_rank n R xs) k s
+      only_if (leb 0 (get_or xs ((k - 1) * n + s) 0) && leb (get_or xs ((k - 1) * n + s) 0) 12) (get_or xs ((k - 1) * n + s) 0) ≡ answered n R (table_rank n R xs) k s
   cell_answered xs k s lo hi h few good =
       let inside : drawn n R k s ≡ true = and_from _ _ (lt-ltb s n h) (and_from _ _ (le-leb 1 k lo) (le-leb k R hi)) in
       let cell : table_rank n R xs k s ≡ get_or xs ((k - 1) * n + s) 0 = cond-true (drawn n R k s) (get_or xs ((k - 1) * n + s) 0) 0 inside in
       let low : table_rank n R xs k s < n = (once_at n R (table_rank n R xs) good k lo hi).below s h in
-      let small : get_or xs ((k - 1) * n + s) 0 < 13 = omega arith in
-      ap (λ b. only_if b (get_or xs ((k - 1) * n + s) 0)) (lt-ltb _ 13 small) ∙ ap (only_if true) (sym cell) ∙ sym (ap (λ b. only_if b (table_rank n R xs k s)) inside)
+      let small : get_or xs ((k - 1) * n + s) 0 ≤ 12 = omega arith in
+      ap (λ b. only_if b (get_or xs ((k - 1) * n + s) 0)) (and_from _ _ (le-leb 0 _ (omega arith)) (le-leb _ 12 small)) ∙ ap (only_if true) (sym cell) ∙ sym (ap (λ b. only_if b (table_rank n R xs k s)) inside)
 
   -- a table that passes is made
   pub table_passes : (xs : List ℕ) → in_bounds n R ≡ true → n * R ≤ length xs → some_misplaced n R (table_rank n R xs) ≡ false →

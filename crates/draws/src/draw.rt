@@ -1,6 +1,6 @@
 //! What a draw is: its seats, its rounds, and the rank of each seat in each round.
 ghost use Rattle.std.specs.Prelude.{◌≡◌, ℕ, ◌≤◌};
-ghost use Rattle.basics.specs.Numbers.{rank_value};
+ghost use Rattle.basics.specs.Numbers.{number_value};
 ghost use Rattle.draws.specs.Ranks.{Bounds, Once, answered};
 
 use basics::numbers::{Rank, Round, SeatIndex};
@@ -32,5 +32,5 @@ pub trait Draw {
 
     /// The rank of the seat in the round; outside the draw there is none.
     fn rank_of(&self, round: Round, seat: SeatIndex) -> Option<Rank>
-        ensures { rank_value result ≡ answered (seats self.now) (rounds self.now) (rank self.now) round.value seat.value };
+        ensures { number_value result ≡ answered (seats self.now) (rounds self.now) (rank self.now) round.value seat.value };
 }

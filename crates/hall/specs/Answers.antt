@@ -1,8 +1,7 @@
 -- What a call on a hall answers and leaves, in the terms of the rules.
 use Rattle.std.specs.Prelude.{◌≡◌, ℕ, Bool, cond, ◌&&◌, ◌||◌, List, [], ◌∷◌, ◌++◌, Ok, Err, Result, ◌==◌, nat_le, nat_lt}
-use Rattle.basics.specs.declared.numbers.SeatIndex.{SeatIndex}
 use Rattle.basics.specs.declared.numbers.BlockNumber.{BlockNumber}
-use Rattle.basics.specs.declared.numbers.Round.{Round}
+use Rattle.basics.specs.declared.ranged.Number.{Number}
 use Rattle.model.specs.Setup.{Plan as Model}
 use Rattle.model.specs.Setup.{Lawful}
 use Rattle.model.specs.World.{World, message}
@@ -20,11 +19,12 @@ use Rattle.hall.specs.declared.hall.Hall.{Hall}
 use Rattle.hall.specs.declared.fault.HallFault.{HallFault}
 use Rattle.hall.specs.declared.fault.HallFault.TheVariants.{NoSeat, OtherSort, OutOfRange}
 
--- the number inside an answer
-abbrev pub seat_answer : Result SeatIndex HallFault → Result ℕ HallFault
-seat_answer (Ok s) = Ok s.value
-seat_answer (Err f) = Err f
+-- the number inside an answer: of a seat or a round
+abbrev pub number_answer : {K : _} {R : _} → Result (Number K R) HallFault → Result ℕ HallFault
+number_answer (Ok x) = Ok x.value
+number_answer (Err f) = Err f
 
+-- the number of a block inside an answer
 abbrev pub block_answer : Result BlockNumber HallFault → Result ℕ HallFault
 block_answer (Ok b) = Ok b.value
 block_answer (Err f) = Err f
@@ -36,10 +36,6 @@ seat_if p right_sort s = cond (nat_lt s p.n) (cond right_sort (Ok s) (Err OtherS
 -- the block that a call names, if it is the root or was made
 abbrev pub block_if : Model → World → ℕ → Result ℕ HallFault
 block_if p w b = cond (known p w b) (Ok b) (Err OutOfRange)
-
-abbrev pub round_answer : Result Round HallFault → Result ℕ HallFault
-round_answer (Ok k) = Ok k.value
-round_answer (Err f) = Err f
 
 -- the round that a call names, if the plan has it
 abbrev pub round_if : Model → ℕ → Result ℕ HallFault

@@ -13,7 +13,7 @@ use Rattle.hall.specs.declared.hall.Hall.{Hall}
 abbrev pub no_seat : Seat
 no_seat = record {
   phase = Waiting;
-  round = record { value = 1; first = omega arith; last = omega arith };
+  round = record { value = 1; kind = record {}; first = omega arith; last = omega arith };
   clock = 0;
   start = 0;
   proposed = false;

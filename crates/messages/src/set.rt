@@ -7,7 +7,7 @@ ghost use Rattle.messages.specs.Rows.{row, subject_fits};
 ghost use Rattle.messages.specs.Stored.{stored, joined, nothing};
 
 use crate::message::{Message, Share};
-use basics::mask;
+use basics::mask::{self, Mask};
 
 /// A set of messages: a row for each kind and subject, and in it a bit for each signer.
 #[derive(Clone, Copy)]
@@ -49,7 +49,7 @@ impl MessageSet {
     pub fn contains(&self, m: Message) -> bool
         ensures { result ≡ stored self.now (means m) }
     {
-        mask::has(self.rows[row_of(m.kind(), m.subject())], bit_of(m))
+        self.rows[row_of(m.kind(), m.subject())].has(bit_of(m))
     }
 
     /// Adds the message.
@@ -58,7 +58,7 @@ impl MessageSet {
     {
         let at = row_of(m.kind(), m.subject());
         let old = self.rows[at];
-        self.rows[at] = mask::with(old, bit_of(m));
+        self.rows[at] = old.with(bit_of(m));
     }
 
     /// How many of the seats below n have signed the share, as far as the set knows.

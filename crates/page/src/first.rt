@@ -8,7 +8,7 @@ ghost use Rattle.page.specs.Setups.{started};
 
 use crate::fault::PageFault;
 use crate::types::{Setup, Start};
-use basics::mask::has;
+use basics::mask::Mask;
 use draws::draw::Draw;
 use draws::rotation::Rotation;
 use frames::frame::Frame;
@@ -20,7 +20,7 @@ fn name_marked(plan: &mut Plan, corrupt: u16, seat: u8) -> Result<(), PlanFault>
     ensures answer { result ≡ marked_answer corrupt seat (model plan.old) }
     ensures plan { model plan.new ≡ marked corrupt seat (model plan.old) }
 {
-    if !has(corrupt, seat) {
+    if !corrupt.has(seat) {
         return Ok(());
     }
     plan.name_corrupt(seat)

@@ -5,7 +5,7 @@ ghost use Rattle.seals.specs.Rows.{row_at, row_holds, row_inside};
 
 use crate::book::{SealBook, SealView};
 use crate::fault::ShortBuffer;
-use basics::mask;
+use basics::mask::{self, Mask};
 
 /// How many masks a book has.
 const ROWS: usize = 632;
@@ -59,7 +59,7 @@ impl<'a> SealView for RowBook<'a> {
     ghost inside = { λ x. row_inside x.masks.now };
 
     fn asked(&self, kind: u8, seat: u8, subject: u16) -> bool {
-        row_at(kind, subject).is_some_and(|at| seat < 13 && mask::has(self.masks[at], seat))
+        row_at(kind, subject).is_some_and(|at| seat < 13 && self.masks[at].has(seat))
     }
 
     fn count(&self, kind: u8, subject: u16) -> u8 {
@@ -77,10 +77,10 @@ impl<'a> SealBook for RowBook<'a> {
             return false;
         };
         let old = self.masks[at];
-        if seat >= 13 || mask::has(old, seat) {
+        if seat >= 13 || old.has(seat) {
             return false;
         }
-        self.masks[at] = mask::with(old, seat);
+        self.masks[at] = old.with(seat);
         true
     }
 }

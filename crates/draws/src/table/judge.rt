@@ -3,18 +3,20 @@ ghost use Rattle.std.specs.Prelude.{◌≡◌, ℕ, suc, ◌+◌, ◌*◌, ◌<�
 ghost use Rattle.basics.specs.Count.{some_below};
 ghost use Rattle.draws.specs.Ranks.{misplaced, table_rank, some_misplaced};
 
+use basics::mask::Mask;
+
 /// Whether the n ranks from `start` on are 0 to n - 1, each once.
 pub(super) fn round_once(ranks: &[u8], start: usize, n: u8) -> bool
     requires sizes { (n ≤ 13) × (start + n ≤ length ranks.now) }
     ensures { result ≡ not (some_below (misplaced n (λ s. slice_index ranks.now (start + s))) n) }
 {
-    let mut seen = 0;
+    let mut seen: u16 = 0;
     for s in 0..n {
         let rank = ranks[start + s as usize];
-        if rank >= n || basics::mask::has(seen, rank) {
+        if rank >= n || seen.has(rank) {
             return false;
         }
-        seen = basics::mask::with(seen, rank);
+        seen = seen.with(rank);
     }
     true
 }

@@ -3,7 +3,7 @@ ghost use Rattle.std.specs.Prelude.{◌≡◌, ℕ, not};
 ghost use Rattle.model.specs.Setup.{honest};
 ghost use Rattle.plans.specs.Planned.{model};
 ghost use Rattle.hall.specs.Worlds.{world};
-ghost use Rattle.hall.specs.Answers.{seat_answer, block_answer, seat_if, block_if};
+ghost use Rattle.hall.specs.Answers.{number_answer, block_answer, seat_if, block_if};
 
 use super::Hall;
 use crate::fault::HallFault;
@@ -13,7 +13,7 @@ use seals::book::{SealBook, SealView};
 impl<B: SealBook> Hall<B> {
     // the honest seat of this number
     pub(super) fn honest_seat(&self, seat: u8) -> Result<SeatIndex, HallFault>
-        ensures { seat_answer result ≡ seat_if (model self.now.plan) (honest (model self.now.plan) seat) seat }
+        ensures { number_answer result ≡ seat_if (model self.now.plan) (honest (model self.now.plan) seat) seat }
     {
         if seat >= self.plan.seats() {
             return Err(HallFault::NoSeat);
@@ -27,7 +27,7 @@ impl<B: SealBook> Hall<B> {
 
     // the corrupt seat of this number
     pub(super) fn corrupt_seat(&self, seat: u8) -> Result<SeatIndex, HallFault>
-        ensures { seat_answer result ≡ seat_if (model self.now.plan) (not (honest (model self.now.plan) seat)) seat }
+        ensures { number_answer result ≡ seat_if (model self.now.plan) (not (honest (model self.now.plan) seat)) seat }
     {
         if seat >= self.plan.seats() {
             return Err(HallFault::NoSeat);

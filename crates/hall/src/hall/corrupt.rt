@@ -9,7 +9,7 @@ ghost use Rattle.tree.specs.Blocks.{mades, parents, payloads};
 ghost use Rattle.hall.specs.Faults.{answer};
 ghost use Rattle.hall.specs.Worlds.{world};
 ghost use Rattle.hall.specs.Steps.{Decided};
-ghost use Rattle.hall.specs.Answers.{round_answer, round_if, Called};
+ghost use Rattle.hall.specs.Answers.{number_answer, round_if, Called};
 
 use super::Hall;
 use crate::fault::HallFault;
@@ -81,7 +81,7 @@ impl<B: SealBook> Hall<B> {
 
     // one of the plan's rounds
     fn plan_round(&self, round: u8) -> Result<Round, HallFault>
-        ensures { round_answer result ≡ round_if (model self.now.plan) round }
+        ensures { number_answer result ≡ round_if (model self.now.plan) round }
     {
         if round < 1 {
             return Err(HallFault::OutOfRange);

@@ -4,11 +4,11 @@ ghost use Rattle.model.specs.Setup.{Lawful, numbers, number, round_of, maker_of,
 ghost use Rattle.model.specs.World.{unlike_all};
 ghost use Rattle.plans.specs.Planned.{model, held_by};
 ghost use Rattle.plans.specs.Places.{SetOf, can_follow};
-ghost use Rattle.basics.specs.Numbers.{seat_value};
+ghost use Rattle.basics.specs.Numbers.{number_value};
 
 use super::Plan;
 use basics::numbers::{BlockNumber, Rank, Round, SeatIndex};
-use basics::{mask, row};
+use basics::mask::{self, Mask};
 
 impl Plan {
     /// How many seats there are.
@@ -46,7 +46,7 @@ impl Plan {
     pub fn is_honest(&self, seat: SeatIndex) -> bool
         ensures { result ≡ honest (model self.now) seat.value }
     {
-        !mask::has(self.corrupt, seat.value())
+        !self.corrupt.has(seat.value())
     }
 
     /// How many seats make a quorum.
@@ -116,7 +116,7 @@ impl Plan {
 
     /// The seat that has this rank in the round, if one has.
     pub fn holder(&self, round: Round, rank: Rank) -> Option<SeatIndex>
-        ensures { seat_value result ≡ held_by (model self.now) round.value rank.value }
+        ensures { number_value result ≡ held_by (model self.now) round.value rank.value }
     {
         for s in 0..self.seats {
             let seat = SeatIndex::capped(s);
@@ -148,7 +148,7 @@ impl Plan {
         if x >= self.entries || y >= self.entries {
             return false;
         }
-        row::has(self.likeness[x as usize], y)
+        self.likeness[x as usize].has(y)
     }
 
     /// Whether the entry at x is like none of those at the places.
@@ -167,7 +167,7 @@ impl Plan {
     pub fn fits(&self, set: u128, x: u8) -> bool
         ensures { (ys : List ℕ) → SetOf (model self.now) set ys → result ≡ can_follow (model self.now) ys x }
     {
-        x < self.entries && !row::meets(self.likeness[x as usize], set)
+        x < self.entries && !mask::meets(self.likeness[x as usize], set)
     }
 
     /// The set with the place x in it. Past the entry table nothing changes.
@@ -175,7 +175,7 @@ impl Plan {
         ensures { (ys : List ℕ) → SetOf (model self.now) set ys → SetOf (model self.now) result (ys ++ (x ∷ [])) }
     {
         if x < self.entries {
-            return row::with(set, x);
+            return set.with(x);
         }
         set
     }

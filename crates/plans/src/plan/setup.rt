@@ -9,7 +9,7 @@ ghost use Rattle.plans.specs.Setup.{modelled, planned, can_be_corrupt, named_cor
 use super::Plan;
 use crate::fault::PlanFault;
 use basics::numbers::{Round, SeatIndex};
-use basics::{mask, row};
+use basics::mask::{self, Mask};
 use draws::draw::Draw;
 use entries::entry::Entry;
 
@@ -49,7 +49,7 @@ fn likeness_row<E: Entry>(entries: &[E], i: usize) -> u128
     let mut likes = 0u128;
     for j in 0..entries.len() {
         if entries[i].is_like(&entries[j]) {
-            likes = row::with(likes, j as u8);
+            likes = likes.with(j as u8);
         }
     }
     likes
@@ -103,13 +103,13 @@ impl Plan {
         if seat >= self.seats {
             return Err(PlanFault::Corrupt(seat));
         }
-        if mask::has(self.corrupt, seat) {
+        if self.corrupt.has(seat) {
             return Err(PlanFault::Corrupt(seat));
         }
         if mask::size_below(self.corrupt, self.seats) >= self.most_corrupt {
             return Err(PlanFault::Corrupt(seat));
         }
-        self.corrupt = mask::with(self.corrupt, seat);
+        self.corrupt = self.corrupt.with(seat);
         Ok(())
     }
 

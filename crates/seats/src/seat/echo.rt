@@ -17,7 +17,7 @@ use super::Seat;
 use super::propose::notarization_of;
 use crate::fault::SeatFault;
 use crate::outgoing::Outgoing;
-use basics::mask;
+use basics::mask::Mask;
 use basics::numbers::{BlockNumber, Rank, SeatIndex};
 use messages::message::{Message, Share};
 use plans::plan::Plan;
@@ -65,7 +65,7 @@ impl Seat {
         if self.noted[block.value() as usize] {
             return Err(SeatFault::EchoedBefore);
         }
-        if mask::has(self.disqualified, rank.value()) {
+        if self.disqualified.has(rank.value()) {
             return Err(SeatFault::EchoedBefore);
         }
         if !tree.valid(plan, &self.pool, block) {
@@ -85,7 +85,7 @@ impl Seat {
         ensures seat { seated self.new ≡ disqualifying rank.value (seated self.old) }
         ensures pool { self.new.pool ≡ self.old.pool }
     {
-        self.disqualified = mask::with(self.disqualified, rank.value());
+        self.disqualified = self.disqualified.with(rank.value());
     }
 
     // the block is noted

@@ -7,7 +7,7 @@ ghost use Rattle.seats.specs.Seated.{pooled};
 ghost use Rattle.seats.specs.Searches.{better_in, block_of_rank, best_in, rank_noted, other_noted, combined_in};
 
 use super::Seat;
-use basics::mask;
+use basics::mask::Mask;
 use basics::numbers::{BlockNumber, Rank};
 use messages::message::{Message, Share};
 use plans::plan::Plan;
@@ -26,7 +26,7 @@ impl Seat {
         if q >= cap {
             return false;
         }
-        if mask::has(self.disqualified, q) {
+        if self.disqualified.has(q) {
             return false;
         }
         tree.valid(plan, &self.pool, c)

@@ -1,5 +1,5 @@
 -- The ones among the lowest 13 digits.
-use Rattle.std.proofs.Common.{ℕ, ◌≤◌, sym, ap, ◌∙◌, subst}
+use Rattle.std.proofs.Common.{ap, ◌∙◌, arith}
 use lib.Bits.{and_mask}
 use lib.Count.{ones}
 use Rattle.basics.specs.Bit.{bit}
@@ -9,4 +9,4 @@ use Rattle.basics.proofs.mask.size.Goals as goal
 pub returns : goal.returns
 returns c =
     let e = ap ones (and_mask c.args.m 13) ∙ ones_tally c.args.m 13 in
-    record { count = e; few = subst (λ (x : ℕ). x ≤ 13) (sym e) (tally_le (bit c.args.m) 13) }
+    record { count = e; few = omega (arith, e, tally_le (bit c.args.m) 13) }

@@ -15,7 +15,7 @@ loop-v-preserved c =
     let q = c.loop-q.q in
     let v = c.loop-v.v in
     let e : 3 * q + v + 1 ≡ 3 * q + (v + 1) = omega arith in
-    let at : c.capped.result.value ≡ q = omega (arith, c.capped.ensures, c.value-q-end.ensures.low, c.loop-q-test.true) in
+    let at : c.capped.result.value ≡ q = omega (arith, c.capped.ensures, c.value-q-end.ensures.last, c.loop-q-test.true) in
     let not_here : better_in p t x r (block_of_rank p x q v) ≡ false =
     ap (λ (k : ℕ). better_in p t x r (block_of_rank p x k v)) (sym at) ∙ none_found _ _ c.in_default.ensures in
     ap (some_below (better_nth p t x r)) (sym e)
@@ -29,7 +29,7 @@ returns-in-Some c =
     let r = c.args.rank.value in
     let q = c.loop-q.q in
     let v = c.loop-v.v in
-    let at : c.capped.result.value ≡ q = omega (arith, c.capped.ensures, c.value-q-end.ensures.low, c.loop-q-test.true) in
+    let at : c.capped.result.value ≡ q = omega (arith, c.capped.ensures, c.value-q-end.ensures.last, c.loop-q-test.true) in
     let below : q < r = omega (arith, c.value-q-end.ensures.same, c.loop-q-test.true) in
     let found = some_found _ _ _ c.in-Some.ensures in
     let turn = nth p t x r q v c.loop-v-test.true in

@@ -1,4 +1,4 @@
-use Rattle.std.proofs.Common.{◌≡◌, false, [], ◌∷◌, sym, refl, ap, ◌∙◌, ap₂}
+use Rattle.std.proofs.Common.{◌≡◌, false, [], ◌∷◌, sym, refl, ap, ◌∙◌, ap₂, arith}
 use Rattle.std.proofs.lemmas.Bool.{cond-false}
 use Rattle.model.specs.Setup.{rank_of}
 use Rattle.model.specs.World.{notarization_share}
@@ -18,7 +18,7 @@ returns g c =
     let b = c.args.block.value in
     let f = g.B.SealView.held c.args.book.now in
     let new : rank_noted p x (rank_of p b) ≡ false = ap (rank_noted p x) (sym c.rank_of-rank.ensures) ∙ sym c.if-noted_rank.ensures in
-    let at_seal = added_one 2 s b f (allowed_block 2 s b refl c.args.who.low c.requires c.args.block.low) in
+    let at_seal = added_one 2 s b f (allowed_block 2 s b refl (omega arith) c.requires c.args.block.low) in
     record {
       share = sym (cond-false (rank_noted p x (rank_of p b)) [] (notarization_share s b ∷ []) new);
       seat = c.note.ensures.seat ∙ sym (cond-false (rank_noted p x (rank_of p b)) (disqualifying (rank_of p b) (seated x)) (noting b (seated x)) new);
