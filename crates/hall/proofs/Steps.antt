@@ -132,7 +132,7 @@ module _ {B : Type 0} (held : B → ℕ → ℕ → ℕ → Bool) (h : Hall B) (
 
 -- The first checks of a call c that names x: that there is such a seat, and of the right sort.
 module _ {B : Type 0} (held : B → ℕ → ℕ → ℕ → Bool) (h : Hall B) (c : Call) (ok : Bool) (x : ℕ) (begins : checks (model h.plan) (world held h) c
-    ≡ must (ltb (caller c) h.plan.seats) 8 3 (caller c) x ∷ must ok 9 3 (caller c) x ∷ drop 2 (checks (model h.plan) (world held h) c)) where
+    ≡ must (ltb (caller c) h.plan.sizes.seats) 8 3 (caller c) x ∷ must ok 9 3 (caller c) x ∷ drop 2 (checks (model h.plan) (world held h) c)) where
   pub seat_refused : (f : HallFault) (r : Result (Unit {0}) HallFault) → Err f ≡ seat_if (model h.plan) ok (caller c) → IsErrAnd r (λ e. e ≡ f)
       → Called held h h c (answer (caller c) x r)
   seat_refused f r e handed =

@@ -2,6 +2,7 @@
 use Rattle.std.proofs.Common.{◌≡◌, ℕ, suc, ◌+◌, ◌*◌, ◌/◌, ◌%◌, ◌<◌, ◌≤◌, cond, List, [], ◌∷◌, ◌++◌, length, get_or, take, drop, set, sym, refl, ap, ◌∙◌, append_assoc, append-nil, add-zero, add-one, arith, length-append, length-drop, take-append-drop, length-take-le, drop-cons, drop-drop}
 use lib.Seq.{set_at, append_snoc, take-append_seam, drop-append-add}
 use Rattle.std.proofs.lemmas.Bool.{le-leb}
+use Rattle.std.proofs.lemmas.List.{drop-append-le}
 use Rattle.lines.specs.Output.{numeral, hexed, line, text, written, over, next_place, put, place_after, put_all, place_after_all}
 
 pub hexed_push : (xs : List ℕ) (b : ℕ) → hexed (xs ++ b ∷ []) ≡ hexed xs ++ numeral (b / 16) ∷ numeral (b % 16) ∷ []
@@ -121,3 +122,12 @@ all_fit xs at (bs ∷ ls) h =
       ap (λ o. put_all o (place_after xs at bs) ls) here ∙ ap (λ k. put_all ys k ls) on ∙ more.0 ∙ written_more xs at (line bs) (text ls) (next_place at bs) (omega arith) (omega arith),
       ap (λ o. place_after_all o (place_after xs at bs) ls) here ∙ ap (λ k. place_after_all ys k ls) on ∙ more.1 ∙ omega arith,
     )
+
+-- what is written over a part at the start is written over the start of all
+pub over_front : (ys xs out : List ℕ) (n : ℕ) → length ys ≤ n → n ≤ length xs → out ≡ over ys (take n xs) → out ++ drop n xs ≡ over ys xs
+over_front ys xs out n h m e =
+    let front = take n xs in
+    let inside : length ys ≤ length front = omega (arith, length-take-le n xs m) in
+    ap (λ o. o ++ drop n xs) e
+    ∙ append_assoc ys (drop (length ys) front) (drop n xs)
+    ∙ ap (λ r. ys ++ r) (sym (drop-append-le (length ys) front (drop n xs) inside) ∙ ap (drop (length ys)) (take-append-drop n xs))

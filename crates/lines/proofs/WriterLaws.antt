@@ -1,7 +1,7 @@
 -- Lemmas on a writer: no line is put, lines are put behind others, and lines that all fit are written.
 use Rattle.std.proofs.Common.{◌≡◌, ℕ, ◌≤◌, List, [], ◌++◌, length, sym, refl, ap, ◌∙◌, arith}
-use Rattle.lines.specs.Output.{text, over, put_all, place_after_all}
-use Rattle.lines.specs.Writing.{buffer_of, place_of, Puts}
+use Rattle.lines.specs.Output.{text, put_all, place_after_all}
+use Rattle.lines.specs.Writing.{buffer_of, place_of, Puts, Fills}
 use Rattle.lines.specs.declared.output.LineWriter.{LineWriter}
 use Rattle.lines.proofs.OutputLaws.{put_all_append, place_all_append, all_fit, over_next}
 
@@ -18,11 +18,13 @@ puts_more x y z ls ms p q = record {
 }
 
 -- lines that all fit, from the start of a buffer
-module _ (x y : LineWriter) (xs : List ℕ) (ls : List (List ℕ)) (is : buffer_of x ≡ xs) (start : place_of x ≡ 0) (p : Puts x y ls) (h : length (text ls) ≤ length xs) where
-  pub puts_over : buffer_of y ≡ over (text ls) xs
-  puts_over =
-      over_next xs [] (text ls) xs (buffer_of y) 0 refl refl (omega arith)
-      (p.buffer ∙ ap (λ o. put_all o (place_of x) ls) is ∙ ap (λ k. put_all xs k ls) start ∙ (all_fit xs 0 ls (omega arith)).0)
-
-  pub puts_to : place_of y ≡ length (text ls)
-  puts_to = p.next ∙ ap (λ o. place_after_all o (place_of x) ls) is ∙ ap (λ k. place_after_all xs k ls) start ∙ (all_fit xs 0 ls (omega arith)).1 ∙ omega arith
+pub puts_fill : (x y : LineWriter) (xs : List ℕ) (ls : List (List ℕ)) → buffer_of x ≡ xs → place_of x ≡ 0 → Puts x y ls → length (text ls) ≤ length xs
+    → Fills xs (text ls) (buffer_of y) (place_of y)
+puts_fill x y xs ls is start p h =
+    let all = all_fit xs 0 ls (omega arith) in
+    record {
+      is = over_next xs [] (text ls) xs (buffer_of y) 0 refl refl (omega arith)
+          (p.buffer ∙ ap (λ o. put_all o (place_of x) ls) is ∙ ap (λ k. put_all xs k ls) start ∙ all.0);
+      size = p.next ∙ ap (λ o. place_after_all o (place_of x) ls) is ∙ ap (λ k. place_after_all xs k ls) start ∙ all.1 ∙ omega arith;
+      fits = h;
+    }

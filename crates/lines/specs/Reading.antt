@@ -34,9 +34,13 @@ abbrev pub lines_read : Option Line → ℕ
 lines_read None = 0
 lines_read (Some _) = 1
 
+-- the line at hand, if there is one, is the last that was read
+abbrev pub IsLast : Option Line → Reader → Type 0
+IsLast r x = IfSome r (λ l. line_number l ≡ line_now x)
+
 -- One line is read, if there is one: from x to y.
 pub record Next (x : Reader) (r : Option Line) (y : Reader) : Type 0 where
   pub line_is : lines_left x ≡ upcoming r y
-  pub number_is : IfSome r (λ l. line_number l ≡ line_now y)
+  pub last : IsLast r y
   pub counts : line_now y ≡ line_now x + lines_read r
   pub falls : length (left y) + lines_read r ≤ length (left x)

@@ -30,22 +30,6 @@ module _ (corrupt s : ℕ) (p : Model) where
   unfolding named
   seat_end h = let e : 16 - s ≡ 0 = omega arith in ap (λ k. named corrupt k s p) e
 
--- an accepted answer is no refusal
-module _ {A B : Type 0} where
-  abbrev tag : Result A B → ℕ
-  tag (Ok _) = 1
-  tag (Err _) = 0
-
-  pub no_refusal : {C : Type 0} (f : B) (x : A) → ◌≡◌ {A = Result A B} (Err f) (Ok x) → C
-  no_refusal f x e = absurd (omega (arith, ap tag e))
-
-  pub same_ok : (x y : A) → ◌≡◌ {A = Result A B} (Ok x) (Ok y) → x ≡ y
-  same_ok x y e = ap inside e
-    where
-      inside : Result A B → A
-      inside (Ok z) = z
-      inside (Err _) = x
-
 -- Naming keeps the sizes of a plan, and goes the same way with other ranks.
 abbrev SameSizes : Model → Result Model PlanFault → Type 0
 SameSizes p (Ok q) = (q.n ≡ p.n) × (q.rounds ≡ p.rounds)

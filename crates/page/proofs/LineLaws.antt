@@ -1,10 +1,11 @@
 -- Lemmas on one line of a run: an entry line, or a call line.
-use Rattle.std.proofs.Common.{◌≡◌, ℕ, ◌+◌, ◌≤◌, Bool, true, false, Option, Some, List, ◌∷◌, Err, Result, sym, refl, ap, ◌∙◌, arith}
+use Rattle.std.proofs.Common.{◌≡◌, ℕ, ◌+◌, ◌≤◌, List, ◌∷◌, Option, Some, None, Err, Result, sym, refl, ap, ◌∙◌, arith}
 use Rattle.model.specs.Setup.{Plan, Plan as Model}
 use Rattle.model.specs.World.{World}
 use Rattle.model.specs.Checks.{Verdict, verdict}
 use Rattle.model.specs.Checks.Verdict.{accepted, refused}
-use Rattle.lines.specs.Reading.{lines_read}
+use Rattle.lines.specs.Reading.{line_now, lines_read, IsLast}
+use Rattle.lines.specs.declared.line.Line.{Line}
 use Rattle.lines.specs.declared.reader.Reader.{Reader}
 use Rattle.frames.specs.Frames.{Frame}
 use Rattle.frames.specs.Frames.Frame.{call}
@@ -49,16 +50,21 @@ module _ (sort : Sort) (p : Model) (es : List PageEntry) (k j : ℕ) (fs : List 
 
 -- Line k, whose frame is f, stands in the place of a call line; then line k' is read, if there is one.
 module _ (p : Plan) (w w' : World) (fs fs' : List Refusal) (c c' : Counts) where
-  same_line : (b : Bool) (y : Reader) (k k' : ℕ) → k' ≡ k + lines_read b → called p w' k' fs' c' (coming b y) ≡ called p w' (k + 1) fs' c' (coming b y)
-  same_line true y k k' e = ap (λ i. called p w' i fs' c' (coming true y)) e
-  same_line false y k k' e = refl
+  same_line : (r : Option Line) (y : Reader) (k k' : ℕ) → k' ≡ k + lines_read r → called p w' k' fs' c' (coming r y) ≡ called p w' (k + 1) fs' c' (coming r y)
+  same_line (Some l) y k k' e = ap (λ i. called p w' i fs' c' (coming (Some l) y)) e
+  same_line None y k k' e = refl
 
-  pub call_line : (k k' : ℕ) (fr : List (Option Frame)) (f : Option Frame) (more : List (Option Frame)) (b : Bool) (y : Reader) (all : List ℕ) → called p w k fs c fr ≡ all → fr ≡ f ∷ more
-      → w' ≡ step_world p w f → fs' ≡ step_refusals p w k fs f → c' ≡ step_counts p w c f → more ≡ coming b y → k' ≡ k + lines_read b
-      → called p w' k' fs' c' (coming b y) ≡ all
-  call_line k k' fr f more b y all inv is ew ef ec er e =
-      same_line b y k k' e ∙ ap (called p w' (k + 1) fs' c') (sym er) ∙ ap (λ x. called p x (k + 1) fs' c' more) ew ∙ ap (λ x. called p (step_world p w f) (k + 1) x c' more) ef
+  pub call_line : (k k' : ℕ) (fr : List (Option Frame)) (f : Option Frame) (more : List (Option Frame)) (r : Option Line) (y : Reader) (all : List ℕ) → called p w k fs c fr ≡ all → fr ≡ f ∷ more
+      → w' ≡ step_world p w f → fs' ≡ step_refusals p w k fs f → c' ≡ step_counts p w c f → more ≡ coming r y → k' ≡ k + lines_read r
+      → called p w' k' fs' c' (coming r y) ≡ all
+  call_line k k' fr f more r y all inv is ew ef ec er e =
+      same_line r y k k' e ∙ ap (called p w' (k + 1) fs' c') (sym er) ∙ ap (λ x. called p x (k + 1) fs' c' more) ew ∙ ap (λ x. called p (step_world p w f) (k + 1) x c' more) ef
       ∙ ap (λ x. called p (step_world p w f) (k + 1) (step_refusals p w k fs f) x more) ec ∙ sym (ap (called p w k fs c) is) ∙ inv
+
+-- a line at hand was read
+pub some_read : (r : Option Line) (x : Reader) → IsLast r x → lines_read r ≤ line_now x
+some_read None x h = omega arith
+some_read (Some l) x h = omega (arith, l.counted)
 
 -- a line counts for one call at most, and a call is accepted or refused
 module _ (c : Counts) where

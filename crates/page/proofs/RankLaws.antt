@@ -10,11 +10,13 @@ use Rattle.draws.specs.declared.fault.DrawFault.{DrawFault}
 use Rattle.draws.specs.declared.fault.DrawFault.TheVariants.{NotOnce, Short, Sizes}
 use Rattle.plans.specs.declared.fault.PlanFault.TheVariants.{Draw}
 use Rattle.frames.specs.Frames.{Frame}
-use Rattle.page.specs.Ranks.{row, meant}
+use Rattle.records.specs.declared.refusal.Refusal.{Refusal}
+use Rattle.page.specs.Refusals.{refusal}
+use Rattle.page.specs.Ranks.{row, meant, ranks_judged}
 use Rattle.page.specs.Run.{rows, ended_at}
 use Rattle.page.specs.declared.fault.PageFault.TheVariants.{Malformed, Plan}
 
--- one more rank on the list
+-- one more rank on a list with room for all
 pub pushed_more : (before ranks now after : List ℕ) (i cap : ℕ) (b : Bool) → i < length ranks → length before + length ranks ≤ cap → now ≡ before ++ take i ranks
     → b ≡ ltb (length now) cap → after ≡ cond b (now ++ get_or ranks i 0 ∷ []) now → after ≡ before ++ take (i + 1) ranks
 pushed_more before ranks now after i cap b h room e is_b f =
@@ -58,11 +60,11 @@ module _ (p : Model) (n left done : ℕ) (table : List ℕ) (fr : List (Option F
         rows_here ∙ ap (λ b. cond b (by_rank (some_misplaced p.n (done + 1) (table_rank p.n (done + 1) (table ++ xs)))) (ended_at (done + 2) Malformed)) z
 
     -- judged as a draw of the rounds so far
-    abbrev pub by_draw_so_far : Result Meaning DrawFault → List ℕ
+    abbrev by_draw_so_far : Result Meaning DrawFault → List ℕ
     by_draw_so_far (Ok _) = rows p left (done + 1) (table ++ xs) more
     by_draw_so_far (Err f) = ended_at (done + 2) (Plan (Draw f))
 
-    pub row_judged : length xs ≡ p.n → in_bounds p.n (done + 1) ≡ true → p.n * (done + 1) ≤ length (table ++ xs)
+    row_judged : length xs ≡ p.n → in_bounds p.n (done + 1) ≡ true → p.n * (done + 1) ≤ length (table ++ xs)
         → all ≡ by_draw_so_far (table_made p.n (done + 1) (table ++ xs))
     row_judged h b l =
         let z : eqb (length xs) p.n ≡ true = grind (arith, nat_tests) in
@@ -74,15 +76,29 @@ module _ (p : Model) (n left done : ℕ) (table : List ℕ) (fr : List (Option F
         by_cases true = refl
         by_cases false = refl
 
+    -- the row is refused, or stands
+    pub row_out : length xs ≡ p.n → in_bounds p.n (done + 1) ≡ true → p.n * (done + 1) ≤ length (table ++ xs) → (d : DrawFault) → Err d ≡ table_made p.n (done + 1) (table ++ xs)
+        → all ≡ ended_at (done + 2) (Plan (Draw d))
+    row_out h b l d q = row_judged h b l ∙ ap by_draw_so_far (sym q)
+
+    pub row_in : length xs ≡ p.n → in_bounds p.n (done + 1) ≡ true → p.n * (done + 1) ≤ length (table ++ xs) → (m : Meaning) → Ok m ≡ table_made p.n (done + 1) (table ++ xs)
+        → all ≡ rows p left (done + 1) (table ++ xs) more
+    row_in h b l m q = row_judged h b l ∙ ap by_draw_so_far (sym q)
+
 -- a table that was made means what its ranks say
 made_by : {A : Type 0} (b : Bool) (m x : A) → ◌≡◌ {A = Result A DrawFault} (Ok m) (cond b (Err NotOnce) (Ok x)) → ◌≡◌ {A = Result A DrawFault} (cond b (Err NotOnce) (Ok x)) (Ok x)
-made_by {A} true m x e = absurd (omega (arith, ap tag e))
-  where
-    tag : Result A DrawFault → ℕ
-    tag (Ok _) = 1
-    tag (Err _) = 0
+made_by true m x e = cc
 made_by false m x e = refl
 
 pub made_is : (n R : ℕ) (xs : List ℕ) (m : Meaning) → in_bounds n R ≡ true → n * R ≤ length xs → Ok m ≡ table_made n R xs → table_made n R xs ≡ Ok (meant n R xs)
 made_is n R xs m b l e =
     judged_table n R xs b l ∙ made_by (some_misplaced n R (table_rank n R xs)) m (meant n R xs) (e ∙ judged_table n R xs b l)
+
+-- how a table's last line was judged, and what then follows of all rank lines
+pub row_refused : (k : ℕ) (r : Result Meaning DrawFault) (f : Refusal) → Err f ≡ ranks_judged k r → (d : DrawFault) × (r ≡ Err d) × (f ≡ refusal k (Plan (Draw d)))
+row_refused k (Ok m) f e = cc
+row_refused k (Err d) f e = (d, refl, cc)
+
+pub row_stands : (k : ℕ) (r : Result Meaning DrawFault) → Ok tt ≡ ranks_judged k r → (m : Meaning) × (Ok m ≡ r)
+row_stands k (Ok m) e = (m, refl)
+row_stands k (Err d) e = cc

@@ -10,7 +10,10 @@ use Rattle.plans.specs.declared.fault.PlanFault.TheVariants.{Draw}
 use Rattle.frames.specs.Frames.{Frame}
 use Rattle.frames.specs.Frames.Frame.{ranks}
 use Rattle.frames.specs.declared.frame.Setup.{Setup}
+use Rattle.records.specs.declared.refusal.Refusal.{Refusal}
+use Rattle.page.specs.Refusals.{refusal}
 use Rattle.page.specs.First.{plan_with}
+use Rattle.page.specs.declared.fault.PageFault.TheVariants.{Plan}
 
 -- the ranks that a line says: none where it is no rank line
 abbrev pub row : Option Frame → List ℕ
@@ -46,3 +49,8 @@ by_draw (Err f) u = Err (Draw f)
 
 abbrev pub table_plan : Setup → List ℕ → Result Model PlanFault
 table_plan u table = by_draw (table_made u.n u.rounds table) u
+
+-- what line k, which brings the last ranks of a table, is answered: it is refused where they are no draw
+abbrev pub ranks_judged : ℕ → Result Meaning DrawFault → Result (Unit {0}) Refusal
+ranks_judged k (Ok _) = Ok tt
+ranks_judged k (Err f) = Err (refusal k (Plan (Draw f)))

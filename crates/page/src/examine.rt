@@ -1,7 +1,7 @@
 //! A whole submission.
 ghost use Rattle.std.specs.Prelude.{◌≡◌, ℕ, ◌+◌, ◌<◌, ◌≤◌, List, [], length, MatchResult};
 ghost use Rattle.plans.specs.Planned.{model};
-ghost use Rattle.lines.specs.Output.{over};
+ghost use Rattle.lines.specs.Writing.{Fills};
 ghost use Rattle.lines.specs.Reading.{line_now};
 ghost use Rattle.page.specs.Reading.{behind};
 ghost use Rattle.page.specs.Journals.{RunsKept};
@@ -11,11 +11,11 @@ ghost use Rattle.page.specs.Run.{page as page_of, run, answer, buffer_after, col
 use crate::entry_table::fill_entries;
 use crate::fault::{PageFault, refused_at};
 use crate::first::judge;
+use crate::lists::{EntryTable, RefusalList};
 use crate::ranks::slip_plan;
 use crate::run::run_calls;
 use crate::types::{PageEntry, Sort, Start};
 use crate::writing::{put_only, put_record};
-use basics::list::BoundedList;
 use entries::card::Card;
 use frames::decode::decode;
 use hall::hall::Hall;
@@ -31,18 +31,14 @@ fn read_plan(sort: Sort, reader: &mut Reader) -> Result<Plan, Refusal>
         (λ p. run sort (behind reader.old) ≡ collected sort (model p) [] (line_now reader.new + 1) [] (behind reader.new))
         (λ f. run sort (behind reader.old) ≡ only f) }
 {
-    if !reader.advance() {
-        return Err(refused_at(1, PageFault::Malformed));
-    }
-    match judge(decode(reader.bytes())) {
-        Err(fault) => Err(refused_at(1, fault)),
-        Ok(start) => match sort {
-            Sort::Cards => {
-                let Start { setup: _, plan } = start;
-                Ok(plan)
-            }
-            Sort::Slips => slip_plan(start, reader),
-        },
+    let line = reader.next().ok_or(refused_at(1, PageFault::Malformed))?;
+    let start = judge(decode(line.bytes())).map_err(|fault| refused_at(1, fault))?;
+    match sort {
+        Sort::Cards => {
+            let Start { setup: _, plan } = start;
+            Ok(plan)
+        }
+        Sort::Slips => slip_plan(start, reader),
     }
 }
 
@@ -52,38 +48,30 @@ fn run_hall<B: SealBook + Drop>(
     book: B,
     planned: Plan,
     reader: &mut Reader,
-    out: &mut [u8],
+    out: &mut [u8; 2048],
 ) -> usize
-    requires { 2048 ≤ length out.old }
-    ensures bytes { out.new ≡ over (collected sort (model planned) [] (line_now reader.old + 1) [] (behind reader.old)) out.old }
-    ensures size { result ≡ length (collected sort (model planned) [] (line_now reader.old + 1) [] (behind reader.old)) }
-    ensures most { result ≤ 2048 }
+    ensures { Fills out.old (collected sort (model planned) [] (line_now reader.old + 1) [] (behind reader.old)) out.new result }
 {
     let mut plan = planned;
-    let mut places = [PageEntry::Card(Card { store: 0, find: 0 }); 128];
-    let mut entries = BoundedList::new(&mut places);
-    let mut lines = [Refusal {
-        line: 0,
-        number: 0,
-        layer: 0,
-        seat: 0,
-        subject: 0,
-    }; 64];
-    let mut refusals = BoundedList::new(&mut lines);
-    let called = fill_entries(sort, reader, &mut entries, &mut refusals);
+    let no_entries = [PageEntry::Card(Card { store: 0, find: 0 }); 128];
+    let mut entries = EntryTable::from_array(no_entries, 0);
+    let mut refusals = RefusalList::empty();
+    let at_hand = fill_entries(sort, reader, &mut entries, &mut refusals);
     let _ = plan.set_entries(entries.as_slice());
     let mut hall = Hall::open(plan, book);
-    let counts = run_calls(&mut hall, reader, called, &mut refusals);
-    put_record(out, &hall, refusals.as_slice(), counts)
+    let counts = run_calls(&mut hall, at_hand, reader, &mut refusals);
+    put_record(out, &hall, &refusals, counts)
 }
 
-/// A submission that is not too long, to a buffer that is long enough.
-fn run_page<B: SealBook + Drop>(sort: Sort, book: B, submission: &[u8], out: &mut [u8]) -> usize
-    requires short { length submission.now ≤ 65535 }
-    requires fits { 2048 ≤ length out.old }
-    ensures bytes { out.new ≡ over (page_of sort submission.now) out.old }
-    ensures size { result ≡ length (page_of sort submission.now) }
-    ensures most { result ≤ 2048 }
+/// A submission that is not too long.
+fn run_page<B: SealBook + Drop>(
+    sort: Sort,
+    book: B,
+    submission: &[u8],
+    out: &mut [u8; 2048],
+) -> usize
+    requires { length submission.now ≤ 65535 }
+    ensures { Fills out.old (page_of sort submission.now) out.new result }
 {
     let mut reader = Reader::new(submission);
     match read_plan(sort, &mut reader) {
@@ -102,8 +90,8 @@ pub fn examine<B: SealBook + Drop>(sort: Sort, book: B, submission: &[u8], outpu
     if submission.len() > 65_535 {
         return 1_000_024;
     }
-    if output.len() < 2_048 {
+    let Some(out) = output.first_chunk_mut() else {
         return 1_000_004;
-    }
-    run_page(sort, book, submission, output) as u32
+    };
+    run_page(sort, book, submission, out) as u32
 }

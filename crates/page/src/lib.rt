@@ -5,6 +5,7 @@ mod entry_table;
 pub mod examine;
 pub mod fault;
 mod first;
+mod lists;
 mod ranks;
 mod run;
 pub mod types;

@@ -1,12 +1,12 @@
 //! The rank lines of the slip hall.
 ghost use Rattle.std.specs.Prelude.{◌≡◌, ℕ, ◌+◌, ◌*◌, ◌<◌, ◌≤◌, true, List, [], ◌++◌, length, Ok, MatchResult};
-ghost use Rattle.basics.specs.Contents.{contents, room};
+ghost use Rattle.basics.specs.Elements.{elements};
 ghost use Rattle.draws.specs.Made.{in_bounds, table_made};
 ghost use Rattle.plans.specs.Planned.{model};
 ghost use Rattle.plans.specs.Setup.{modelled};
 ghost use Rattle.lines.specs.Reading.{line_now};
 ghost use Rattle.frames.specs.Shape.{shape};
-ghost use Rattle.page.specs.Ranks.{row as row_of, meant, with_table, table_plan};
+ghost use Rattle.page.specs.Ranks.{row as row_of, ranks_judged, meant, with_table, table_plan};
 ghost use Rattle.page.specs.Reading.{behind};
 ghost use Rattle.page.specs.Record.{only};
 ghost use Rattle.page.specs.Run.{rows, collected};
@@ -14,8 +14,8 @@ ghost use Rattle.page.specs.declared.types.Sort.TheVariants.{Slips};
 
 use crate::fault::{PageFault, refused_at};
 use crate::first::plan_with;
+use crate::lists::RankTable;
 use crate::types::{Setup, Start};
-use basics::list::BoundedList;
 use draws::table::TableDraw;
 use frames::decode::decode;
 use frames::frame::Frame;
@@ -35,45 +35,48 @@ fn row<'a>(frame: Option<Frame<'a>>) -> &'a [u8]
 }
 
 /// Adds ranks to the table.
-fn push_all(table: &mut BoundedList<u8>, ranks: &[u8])
-    requires { length (contents table.old) + length ranks.now ≤ room table.old }
-    ensures all { contents table.new ≡ contents table.old ++ ranks.now }
-    ensures space { room table.new ≡ room table.old }
+fn push_all(table: &mut RankTable, ranks: &[u8])
+    requires { length (elements table.old) + length ranks.now ≤ 104 }
+    ensures { elements table.new ≡ elements table.old ++ ranks.now }
 {
-    for r in ranks {
-        let _ = table.push(*r);
+    for rank in ranks {
+        table.push(*rank);
     }
 }
 
-/// Reads the rank lines into the table; the refusal of one that does not stand.
-fn read_ranks(plan: &Plan, reader: &mut Reader, table: &mut BoundedList<u8>) -> Result<(), Refusal>
+/// Whether ranks are a draw of so many seats and rounds: if not, the line that brought the last of them is refused.
+fn judge_ranks(n: u8, rounds: u8, ranks: &[u8], line: u16) -> Result<(), Refusal>
+    ensures { result ≡ ranks_judged line (table_made n rounds ranks.now) }
+{
+    TableDraw::new(n, rounds, ranks).map(|_| ()).map_err(|fault| refused_at(
+        line,
+        PageFault::Plan(PlanFault::Draw(fault)),
+    ))
+}
+
+/// The ranks of the rank lines, or the refusal of one that does not stand.
+fn read_ranks(plan: &Plan, reader: &mut Reader) -> Result<RankTable, Refusal>
     requires sizes { in_bounds (model plan.now).n (model plan.now).rounds ≡ true }
-    requires space { room table.old ≡ 104 }
-    requires empty { contents table.old ≡ [] }
     requires first { line_now reader.old ≡ 1 }
-    ensures all { MatchResult result
-        (λ _. (rows (model plan.now) (model plan.now).rounds 0 [] (behind reader.old) ≡ collected Slips (with_table (contents table.new) (model plan.now)) [] (line_now reader.new + 1) [] (behind reader.new))
-        × (table_made (model plan.now).n (model plan.now).rounds (contents table.new) ≡ Ok (meant (model plan.now).n (model plan.now).rounds (contents table.new))))
+    ensures { MatchResult result
+        (λ table. (rows (model plan.now) (model plan.now).rounds 0 [] (behind reader.old) ≡ collected Slips (with_table (elements table) (model plan.now)) [] (line_now reader.new + 1) [] (behind reader.new))
+        × (table_made (model plan.now).n (model plan.now).rounds (elements table) ≡ Ok (meant (model plan.now).n (model plan.now).rounds (elements table))))
         (λ f. rows (model plan.now) (model plan.now).rounds 0 [] (behind reader.old) ≡ only f) }
 {
     let n = plan.seats();
-    let rounds = plan.rounds();
-    for k in 0..rounds {
-        let line = u16::from(k) + 2;
-        if !reader.advance() {
-            return Err(refused_at(line, PageFault::Malformed));
-        }
-        let ranks = row(decode(reader.bytes()));
+    let mut table = RankTable::empty();
+    for k in 0..plan.rounds() {
+        let place = u16::from(k) + 2;
+        let malformed = refused_at(place, PageFault::Malformed);
+        let line = reader.next().ok_or(malformed)?;
+        let ranks = row(decode(line.bytes()));
         if ranks.len() != usize::from(n) {
-            return Err(refused_at(line, PageFault::Malformed));
+            return Err(malformed);
         }
-        push_all(table, ranks);
-        match TableDraw::new(n, k + 1, table.as_slice()) {
-            Ok(_) => {}
-            Err(fault) => return Err(refused_at(line, PageFault::Plan(PlanFault::Draw(fault)))),
-        }
+        push_all(&mut table, ranks);
+        judge_ranks(n, k + 1, table.as_slice(), place)?;
     }
-    Ok(())
+    Ok(table)
 }
 
 /// The plan of a table with what the first line says.
@@ -92,11 +95,6 @@ pub(crate) fn slip_plan(start: Start, reader: &mut Reader) -> Result<Plan, Refus
         (λ f. rows (model start.plan) (model start.plan).rounds 0 [] (behind reader.old) ≡ only f) }
 {
     let Start { setup, plan } = start;
-    let mut ranks = [0; 104];
-    let mut table = BoundedList::new(&mut ranks);
-    read_ranks(&plan, reader, &mut table)?;
-    match table_plan(setup, table.as_slice()) {
-        Ok(planned) => Ok(planned),
-        Err(fault) => Err(refused_at(1, PageFault::from(fault))),
-    }
+    let table = read_ranks(&plan, reader)?;
+    table_plan(setup, table.as_slice()).map_err(|fault| refused_at(1, PageFault::from(fault)))
 }

@@ -1,21 +1,21 @@
 //! The call lines of a run.
-ghost use Rattle.std.specs.Prelude.{◌≡◌, ℕ, ◌+◌, ◌<◌, ◌≤◌, List, [], length};
+ghost use Rattle.std.specs.Prelude.{◌≡◌, ℕ, ◌<◌};
 ghost use Rattle.plans.specs.Planned.{model};
 ghost use Rattle.hall.specs.Worlds.{world};
-ghost use Rattle.basics.specs.Contents.{contents, room};
-ghost use Rattle.lines.specs.Reading.{line_now, lines_read};
+ghost use Rattle.basics.specs.Elements.{elements};
+ghost use Rattle.lines.specs.Reading.{line_now, IsLast};
 ghost use Rattle.frames.specs.Shape.{shape};
 ghost use Rattle.page.specs.Reading.{coming};
 ghost use Rattle.page.specs.Record.{recorded};
 ghost use Rattle.page.specs.Calls.{no_counts, step_world, step_refusals, step_counts, called};
 
 use crate::fault::{PageFault, call_refused_at, refused_at};
-use basics::list::BoundedList;
+use crate::lists::RefusalList;
 use frames::decode::decode;
 use frames::frame::Frame;
 use hall::hall::Hall;
+use lines::line::Line;
 use lines::reader::Reader;
-use records::refusal::Refusal;
 use records::totals::Counts;
 use seals::book::{SealBook, SealView};
 
@@ -24,16 +24,14 @@ fn take_line<B: SealBook>(
     hall: &mut Hall<B>,
     frame: Option<Frame>,
     line: u16,
-    refusals: &mut BoundedList<Refusal>,
+    refusals: &mut RefusalList,
     counts: &mut Counts,
 )
-    requires some { room refusals.old ≡ 64 }
-    requires few { (counts.old.calls < 65535) × (counts.old.accepted < 65535) × (counts.old.refused < 65535) }
+    requires { (counts.old.calls < 65535) × (counts.old.accepted < 65535) × (counts.old.refused < 65535) }
     ensures world { world B.SealView.held hall.new ≡ step_world (model hall.old.plan) (world B.SealView.held hall.old) (shape frame.entry) }
     ensures plan { model hall.new.plan ≡ model hall.old.plan }
-    ensures refusals { contents refusals.new ≡ step_refusals (model hall.old.plan) (world B.SealView.held hall.old) line (contents refusals.old) (shape frame.entry) }
+    ensures refusals { elements refusals.new ≡ step_refusals (model hall.old.plan) (world B.SealView.held hall.old) line (elements refusals.old) (shape frame.entry) }
     ensures counts { counts.new ≡ step_counts (model hall.old.plan) (world B.SealView.held hall.old) counts.old (shape frame.entry) }
-    ensures some { room refusals.new ≡ 64 }
 {
     match frame {
         Some(Frame::Call(call)) => {
@@ -44,17 +42,12 @@ fn take_line<B: SealBook>(
                 Ok(()) => counts.accepted += 1,
                 Err(fault) => {
                     counts.refused += 1;
-                    let _ = refusals.push(call_refused_at(
-                        line,
-                        seat,
-                        subject,
-                        PageFault::from(fault),
-                    ));
+                    refusals.push(call_refused_at(line, seat, subject, PageFault::from(fault)));
                 }
             }
         }
         _ => {
-            let _ = refusals.push(refused_at(line, PageFault::Malformed));
+            refusals.push(refused_at(line, PageFault::Malformed));
         }
     }
 }
@@ -62,27 +55,30 @@ fn take_line<B: SealBook>(
 /// The lines from the first call on, which is at hand if there is one.
 pub(crate) fn run_calls<B: SealBook>(
     hall: &mut Hall<B>,
+    first: Option<Line>,
     reader: &mut Reader,
-    first: bool,
-    refusals: &mut BoundedList<Refusal>,
+    refusals: &mut RefusalList,
 ) -> Counts
-    requires some { room refusals.old ≡ 64 }
-    requires read { lines_read first ≤ line_now reader.old }
-    ensures all { recorded (model hall.old.plan) (world B.SealView.held hall.new) (contents refusals.new) result
-        ≡ called (model hall.old.plan) (world B.SealView.held hall.old) (line_now reader.old) (contents refusals.old) no_counts (coming first reader.old) }
+    requires { IsLast first reader.old }
+    ensures all { recorded (model hall.old.plan) (world B.SealView.held hall.new) (elements refusals.new) result
+        ≡ called (model hall.old.plan) (world B.SealView.held hall.old) (line_now reader.old) (elements refusals.old) no_counts (coming first reader.old) }
     ensures plan { model hall.new.plan ≡ model hall.old.plan }
-    ensures some { room refusals.new ≡ 64 }
 {
     let mut counts = Counts {
         calls: 0,
         accepted: 0,
         refused: 0,
     };
-    let mut more = first;
-    while more {
-        let line = reader.line();
-        take_line(hall, decode(reader.bytes()), line, refusals, &mut counts);
-        more = reader.advance();
+    let mut at_hand = first;
+    while let Some(line) = at_hand {
+        take_line(
+            hall,
+            decode(line.bytes()),
+            line.number(),
+            refusals,
+            &mut counts,
+        );
+        at_hand = reader.next();
     }
     counts
 }

@@ -1,19 +1,24 @@
 //! The record of a run.
-ghost use Rattle.std.specs.Prelude.{◌≡◌, ℕ, ◌+◌, ◌*◌, ◌<◌, ◌≤◌, true, false, ◌&&◌, List, [], ◌∷◌, map, length, MatchOption, nat_lt};
-ghost use Rattle.model.specs.Setup.{honest};
+ghost use Rattle.std.specs.Prelude.{◌≡◌, ◌*◌, ◌≤◌, length};
+ghost use Rattle.basics.specs.Elements.{elements};
 ghost use Rattle.seats.specs.Seated.{stage};
-ghost use Rattle.page.specs.Shape.{Reported};
+ghost use Rattle.seats.specs.Standings.{Stands};
+ghost use Rattle.model.specs.World.{Seat};
 ghost use Rattle.plans.specs.Planned.{model};
 ghost use Rattle.hall.specs.Worlds.{world};
-ghost use Rattle.lines.specs.Output.{over, put_all, place_after_all, text};
+ghost use Rattle.lines.specs.Output.{text};
+ghost use Rattle.lines.specs.Writing.{Puts, Fills};
 ghost use Rattle.page.specs.Record.{state, seat_frames, recorded, only};
+ghost use Rattle.page.specs.Shape.{Reported};
 
+use crate::lists::RefusalList;
 use hall::hall::Hall;
+use lines::output::LineWriter;
 use records::refusal::{Refusal, put_refusals};
 use records::seat::{SeatReport, put_seat};
 use records::totals::{Counts, put_counts};
 use seals::book::{SealBook, SealView};
-use seats::seat::Phase;
+use seats::seat::{Phase, Standing};
 
 /// The byte that says a phase.
 fn state_of(phase: Phase) -> u8
@@ -26,66 +31,52 @@ fn state_of(phase: Phase) -> u8
     }
 }
 
-/// The report of an honest seat; of any other there is none.
-fn report<B: SealBook>(hall: &Hall<B>, seat: u8) -> Option<SeatReport>
-    ensures { MatchOption result
-        ((nat_lt seat (model hall.now.plan).n && honest (model hall.now.plan) seat) ≡ false)
-        (λ x. ((nat_lt seat (model hall.now.plan).n && honest (model hall.now.plan) seat) ≡ true) × Reported x ((world B.SealView.held hall.now).seat seat)) }
+/// The report of how a seat stands.
+fn report(standing: Standing<'_>) -> SeatReport<'_>
+    requires { length standing.entry.catalogue.now ≤ 8 }
+    ensures { (x : Seat) → Stands standing.entry x → Reported result x }
 {
-    let standing = hall.standing(seat)?;
-    let count = standing.catalogue.len();
-    let mut catalogue = [0; 8];
-    catalogue[..count].copy_from_slice(standing.catalogue);
-    Some(SeatReport {
+    SeatReport {
         state: state_of(standing.phase),
         round: standing.round.value(),
-        k_max: count as u8,
-        catalogue,
-        count,
-    })
+        k_max: standing.catalogue.len() as u8,
+        catalogue: standing.catalogue,
+    }
 }
 
-/// The lines of the honest seats, from a place on.
-fn put_seats<B: SealBook>(out: &mut [u8], at: usize, hall: &Hall<B>) -> usize
-    ensures buffer { out.new ≡ put_all out.old at (seat_frames (model hall.now.plan) (world B.SealView.held hall.now) (model hall.now.plan).n) }
-    ensures next { result ≡ place_after_all out.old at (seat_frames (model hall.now.plan) (world B.SealView.held hall.now) (model hall.now.plan).n) }
+/// Puts the lines of the honest seats.
+fn put_seats<B: SealBook>(writer: &mut LineWriter, hall: &Hall<B>)
+    ensures seats { Puts writer.old writer.new (seat_frames (model hall.now.plan) (world B.SealView.held hall.now) (model hall.now.plan).n) }
     ensures few { length (text (seat_frames (model hall.now.plan) (world B.SealView.held hall.now) (model hall.now.plan).n)) ≤ 43 * 13 }
 {
-    let n = hall.seat_count();
-    let mut next = at;
-    for s in 0..n {
-        let Some(report) = report(hall, s) else {
-            continue;
-        };
-        next = put_seat(out, next, s, report);
+    for seat in 0..hall.seat_count() {
+        if let Some(standing) = hall.standing(seat) {
+            put_seat(writer, seat, report(standing));
+        }
     }
-    next
 }
 
-/// All that is written at the end of a run: its length.
+/// Puts all that is written at the end of a run: its length.
 pub(crate) fn put_record<B: SealBook>(
-    out: &mut [u8],
+    out: &mut [u8; 2048],
     hall: &Hall<B>,
-    refusals: &[Refusal],
+    refusals: &RefusalList,
     counts: Counts,
 ) -> usize
-    requires fits { 2048 ≤ length out.old }
-    requires few { length refusals.now ≤ 64 }
-    ensures bytes { out.new ≡ over (recorded (model hall.now.plan) (world B.SealView.held hall.now) refusals.now counts) out.old }
-    ensures size { result ≡ length (recorded (model hall.now.plan) (world B.SealView.held hall.now) refusals.now counts) }
-    ensures most { result ≤ 2048 }
+    ensures { Fills out.old (recorded (model hall.now.plan) (world B.SealView.held hall.now) (elements refusals.now) counts) out.new result }
 {
-    let after_refusals = put_refusals(out, 0, refusals);
-    let after_seats = put_seats(out, after_refusals, hall);
-    put_counts(out, after_seats, counts)
+    let mut writer = LineWriter::new(out, 0);
+    put_refusals(&mut writer, refusals.as_slice());
+    put_seats(&mut writer, hall);
+    put_counts(&mut writer, counts);
+    writer.place()
 }
 
-/// The line of one refusal alone.
-pub(crate) fn put_only(out: &mut [u8], refusal: Refusal) -> usize
-    requires { 2048 ≤ length out.old }
-    ensures bytes { out.new ≡ over (only refusal) out.old }
-    ensures size { result ≡ length (only refusal) }
-    ensures most { result ≤ 2048 }
+/// Puts the line of one refusal alone: its length.
+pub(crate) fn put_only(out: &mut [u8; 2048], refusal: Refusal) -> usize
+    ensures { Fills out.old (only refusal) out.new result }
 {
-    put_refusals(out, 0, &[refusal])
+    let mut writer = LineWriter::new(out, 0);
+    put_refusals(&mut writer, &[refusal]);
+    writer.place()
 }

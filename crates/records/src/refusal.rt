@@ -6,7 +6,7 @@ ghost use Rattle.records.specs.Frames.{refusal_frame};
 use lines::output::LineWriter;
 
 /// A line that was refused: its number, the refusal's number and layer, and the seat and subject that it names.
-#[derive(Clone, Copy)]
+#[derive(Clone, Copy, Default)]
 pub struct Refusal {
     pub line: u16,
     pub number: u8,
