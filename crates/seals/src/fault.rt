@@ -3,7 +3,7 @@ ghost use Rattle.std.specs.Prelude.{◌≡◌};
 ghost use Rattle.seals.specs.Lending.{seal_fault_number};
 
 /// The refusals of a seal book.
-#[derive(Clone, Copy, PartialEq, Eq, Debug)]
+#[derive(Clone, Copy, Debug, PartialEq, Eq)]
 pub enum SealFault {
     /// The buffer is too short.
     Short,

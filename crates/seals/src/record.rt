@@ -3,7 +3,7 @@ ghost use Rattle.std.specs.Prelude.{◌≡◌};
 ghost use Rattle.seals.specs.Seals.{allowed};
 
 /// A seal: which kind, by which seat, on which block or round.
-#[derive(Clone, Copy, PartialEq, Eq, Debug)]
+#[derive(Clone, Copy, Debug, PartialEq, Eq)]
 pub struct SealRecord {
     pub kind: u8,
     pub seat: u8,
