@@ -12,7 +12,7 @@ pub struct InlineList<T, const N: usize> {
     ghost few: { len ≤ N },
 }
 
-// by hand: a generic struct with a ghost field cannot derive `Clone`
+// By hand: a generic struct with a ghost field cannot derive `Clone`
 impl<T: Copy, const N: usize> Clone for InlineList<T, N> {
     fn clone(&self) -> Result<Self, AllocError> {
         Ok(*self)

@@ -1,4 +1,4 @@
-//! The small types that everything stands on: wrapped numbers, sets of small numbers as masks, and a bounded list.
+//! The small types that everything stands on: wrapped numbers, sets of small numbers as masks, a bounded list over lent memory, and a short list that lies in its owner.
 #![tactic(auto)]
 
 pub mod inline_list;

@@ -15,8 +15,10 @@ pub trait Kind {
     /// There is a number in the range.
     ghost some: { FIRST ≤ LAST };
 
+    /// The first number, for the code.
     const FIRST: u8;
 
+    /// The last number, for the code.
     const LAST: u8;
 }
 
@@ -29,7 +31,7 @@ pub struct Number<K: Kind> {
     ghost last: { value ≤ K.LAST },
 }
 
-// by hand: a generic struct with a ghost field cannot derive `Clone`
+// By hand: a generic struct with a ghost field cannot derive `Clone`
 impl<K: Kind> Clone for Number<K> {
     fn clone(&self) -> Result<Self, AllocError> {
         Ok(*self)
