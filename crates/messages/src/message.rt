@@ -2,7 +2,7 @@
 use basics::numbers::{BlockNumber, Round, SeatIndex};
 
 /// What one seat signs: a block for notarization or for finalization, or a round's beacon.
-#[derive(Clone, Copy, PartialEq, Eq)]
+#[derive(Clone, Copy, Debug, PartialEq, Eq)]
 pub enum Share {
     Notarization(BlockNumber),
     Finalization(BlockNumber),
@@ -36,7 +36,7 @@ impl Share {
 }
 
 /// A message: a block, a share with its signer, or the whole that a quorum of shares makes.
-#[derive(Clone, Copy, PartialEq, Eq)]
+#[derive(Clone, Copy, Debug, PartialEq, Eq)]
 pub enum Message {
     Block(BlockNumber),
     Signed(Share, SeatIndex),

@@ -1,83 +1,80 @@
--- What a list of seals holds, element by element, and after one more.
-use Rattle.std.proofs.Common.{◌≡◌, ℕ, zero, suc, ◌+◌, ◌<◌, Bool, true, false, ◌&&◌, ◌||◌, eqb, List, [], ◌∷◌, ◌++◌, length, get_or, take, sym, refl, ap, ◌∙◌, ⊎_elim, le_of_suc-le-suc, arith}
-use Rattle.std.proofs.lemmas.List.{take_more}
-use Rattle.std.proofs.lemmas.Bool.{cases_Bool, eq-eqb, eqb-true, and_from, and_right, and_parts, or_parts, or_from, or_right, not_from_false, true≢false}
+-- What a list of seals holds with one more, and how many seats have sealed one thing.
+use Rattle.std.proofs.Common.{◌≡◌, ℕ, ◌<◌, ◌≤◌, Bool, true, false, cond, ◌&&◌, ◌||◌, eqb, List, [], ◌∷◌, ◌++◌, count_by, ◌==◌, sym, refl, ap, ◌∙◌, ⊎_elim, arith}
+use Rattle.std.proofs.lemmas.Bool.{cases_Bool, eqb-true, and_from, and_right, and_parts}
+use Rattle.std.proofs.lemmas.Bool.Decides.{nat_tests}
+use Rattle.std.proofs.lemmas.List.Folds.{list_any-append}
+use Rattle.std.proofs.lemmas.List.Sums.{sum_by-cons}
+use Rattle.basics.specs.Count.{tally}
+use Rattle.basics.proofs.CountLaws.{tally_same, tally_add, tally_none}
 use Rattle.seals.specs.declared.record.SealRecord.{SealRecord}
 use Rattle.seals.specs.Seals.{allowed, added}
 use Rattle.seals.specs.Listed.{is, listed, sound, list_holds}
 use Rattle.seals.proofs.AddedLaws.{same_seal}
-use Rattle.seals.proofs.RoomLaws.{can, sound_parts}
-
-or_assoc : (a b c : Bool) → ((a || b) || c) ≡ (a || (b || c))
-or_assoc true b c = refl
-or_assoc false b c = refl
-
-or_off : (a : Bool) → (a || false) ≡ a
-or_off true = refl
-or_off false = refl
+use Rattle.seals.proofs.RoomLaws.{can, can_parts, sound_parts}
 
 -- one seal more at the end
-pub listed_push : (xs : List SealRecord) (z : SealRecord) (k s b : ℕ) → listed (xs ++ z ∷ []) k s b ≡ (listed xs k s b || is z k s b)
-listed_push [] z k s b = or_off (is z k s b)
-listed_push (x ∷ xs) z k s b = ap (λ y. is x k s b || y) (listed_push xs z k s b) ∙ sym (or_assoc (is x k s b) (listed xs k s b) (is z k s b))
-
-is_turn : (x z : SealRecord) → is x z.kind z.seat z.subject ≡ false → is z x.kind x.seat x.subject ≡ false
-is_turn x z h =
-    ⊎_elim
-    (λ (e : is z x.kind x.seat x.subject ≡ true).
-    let p = and_parts (eqb x.kind z.kind) (eqb x.seat z.seat && eqb x.subject z.subject) e in
-    let q = and_parts (eqb x.seat z.seat) (eqb x.subject z.subject) p.1 in
-    absurd (true≢false (sym (and_from _ _ (eq-eqb _ _ (sym (eqb-true _ _ p.0))) (and_from _ _ (eq-eqb _ _ (sym (eqb-true _ _ q.0))) (eq-eqb _ _ (sym (eqb-true _ _ q.1))))) ∙ h)))
-    (λ gone. gone)
-    (cases_Bool (is z x.kind x.seat x.subject))
+listed_push : (xs : List SealRecord) (z : SealRecord) (k s b : ℕ) → listed (xs ++ z ∷ []) k s b ≡ (listed xs k s b || is z k s b)
+listed_push xs z k s b = list_any-append (λ x. is x k s b) xs (z ∷ []) ∙ ap (λ y. listed xs k s b || y) (off (is z k s b))
+  where
+    off : (a : Bool) → (a || false) ≡ a
+    off a = grind arith
 
 pub sound_push : (xs : List SealRecord) (z : SealRecord) → sound xs ≡ true → can z ≡ true → listed xs z.kind z.seat z.subject ≡ false → sound (xs ++ z ∷ []) ≡ true
 sound_push [] z h ok gone = and_from _ _ (and_from _ _ ok refl) refl
 sound_push (x ∷ xs) z h ok gone =
     let s = sound_parts x xs h in
-    let n = or_parts (is x z.kind z.seat z.subject) (listed xs z.kind z.seat z.subject) gone in
-    let off : listed (xs ++ z ∷ []) x.kind x.seat x.subject ≡ false = listed_push xs z x.kind x.seat x.subject ∙ or_from _ _ s.1 (is_turn x z n.0) in
-    and_from _ _ (and_from _ _ s.0 (not_from_false _ off)) (sound_push xs z s.2 ok n.1)
+    let more = listed_push xs z x.kind x.seat x.subject in
+    let turn : is z x.kind x.seat x.subject ≡ is x z.kind z.seat z.subject = grind (arith, nat_tests) in
+    let rest : listed xs z.kind z.seat z.subject ≡ false → sound (xs ++ z ∷ []) ≡ true = sound_push xs z s.2 ok in
+    grind arith
 
--- in a sound list there are only seals that there can be
-pub listed_allowed : (xs : List SealRecord) (k s b : ℕ) → sound xs ≡ true → listed xs k s b ≡ list_holds xs k s b
-listed_allowed xs k s b h =
-    ⊎_elim
-    (λ (t : listed xs k s b ≡ true). t ∙ sym (and_from (allowed k s b) (listed xs k s b) (go xs h t) t))
-    (λ (f : listed xs k s b ≡ false). f ∙ sym (and_right (allowed k s b) (listed xs k s b) f))
-    (cases_Bool (listed xs k s b))
+flip : (x y : ℕ) → eqb x y ≡ eqb y x
+flip x y = grind (arith, nat_tests)
+
+pub list_sealed : (xs : List SealRecord) (z : SealRecord) → can z ≡ true → list_holds (xs ++ z ∷ []) ≡ added z.kind z.seat z.subject (list_holds xs)
+list_sealed xs z ok =
+    let each : (k s b : ℕ) → list_holds (xs ++ z ∷ []) k s b ≡ added z.kind z.seat z.subject (list_holds xs) k s b =
+    (λ k s b. joins (allowed k s b) (can z) (listed xs k s b) (eqb z.kind k) (eqb z.seat s) (eqb z.subject b) _ _ _ _ (listed_push xs z k s b) ok (flip z.kind k) (flip z.seat s) (flip z.subject b) (same_seal allowed z.kind z.seat z.subject k s b)) in
+    λ i k s b. each k s b i
   where
-    go : (ys : List SealRecord) → sound ys ≡ true → listed ys k s b ≡ true → allowed k s b ≡ true
-    go [] g t = absurd (true≢false (sym t))
-    go (y ∷ ys) g t =
-        let p = sound_parts y ys g in
-        ⊎_elim
-        (λ (e : is y k s b ≡ true). same_seal allowed y.kind y.seat y.subject k s b e ∙ p.0)
-        (λ (gone : is y k s b ≡ false). go ys p.2 (sym (ap (λ x. x || listed ys k s b) gone) ∙ t))
-        (cases_Bool (is y k s b))
+    joins : (q p y kk ss bb kk' ss' bb' more : Bool) → more ≡ (y || (kk && (ss && bb))) → p ≡ true → kk ≡ kk' → ss ≡ ss' → bb ≡ bb' → ((kk' && (ss' && bb')) ≡ true → q ≡ p)
+        → (q && more) ≡ ((p && (kk' && (ss' && bb'))) || (q && y))
+    joins q p y kk ss bb kk' ss' bb' more m ok e f g same = grind arith
 
-joins : (p q w y : Bool) → (w ≡ true → q ≡ true) → p ≡ true → (q && (y || w)) ≡ ((p && w) || (q && y))
-joins p q w y f ok = grind arith
+-- one seal more at the front
+holds_more : (x : SealRecord) (xs : List SealRecord) (k s b : ℕ) → can x ≡ true → list_holds (x ∷ xs) k s b ≡ (is x k s b || list_holds xs k s b)
+holds_more x xs k s b ok = joins (allowed k s b) (can x) (is x k s b) (listed xs k s b) ok (same_seal allowed k s b x.kind x.seat x.subject)
+  where
+    joins : (q p w y : Bool) → p ≡ true → (w ≡ true → p ≡ q) → (q && (w || y)) ≡ (w || (q && y))
+    joins q p w y ok same = grind arith
 
-pub list_sealed : (xs : List SealRecord) (k s b : ℕ) → allowed k s b ≡ true → list_holds (xs ++ record { kind = k; seat = s; subject = b } ∷ []) ≡ added k s b (list_holds xs)
-list_sealed xs k s b ok =
-    let z : SealRecord = record { kind = k; seat = s; subject = b } in
-    let at : (k' s' b' : ℕ) → list_holds (xs ++ z ∷ []) k' s' b' ≡ added k s b (list_holds xs) k' s' b' =
-    (λ k' s' b'.
-    ap (λ x. allowed k' s' b' && x) (listed_push xs z k' s' b')
-    ∙ joins (allowed k s b) (allowed k' s' b') (eqb k' k && (eqb s' s && eqb b' b)) (listed xs k' s' b') (λ e. same_seal allowed k s b k' s' b' e ∙ ok) ok) in
-    λ i k' s' b'. at k' s' b' i
+-- The records of one kind and subject are as many as the seats that have sealed it.
+-- (the bound is a variable here, since a count up to a numeral would be written out)
+pub counted : (top : ℕ) → 13 ≤ top → (k b : ℕ) (xs : List SealRecord) → sound xs ≡ true
+    → count_by (λ x. x.kind == k && x.subject == b) xs ≡ tally (λ s. list_holds xs k s b) top
+counted top big k b [] h = sym (tally_none (λ s. list_holds [] k s b) top (λ s low. and_right (allowed k s b) false refl))
+counted top big k b (x ∷ xs) h =
+    let p = sound_parts x xs h in
+    let rest = counted top big k b xs p.2 in
+    let more : (s : ℕ) → list_holds (x ∷ xs) k s b ≡ (is x k s b || list_holds xs k s b) = (λ s. holds_more x xs k s b p.0) in
+    let longer = sum_by-cons (λ x. cond {A = ℕ} (x.kind == k && x.subject == b) 1 0) x xs in
+    ⊎_elim
+    (λ (mine : (x.kind == k && x.subject == b) ≡ true).
+    let e = and_parts (x.kind == k) (x.subject == b) mine in
+    let gone : listed xs k x.seat b ≡ false = sym (λ i. listed xs (eqb-true _ _ e.0 i) x.seat (eqb-true _ _ e.1 i)) ∙ p.1 in
+    let seat : x.seat < top = omega (arith, (can_parts x p.0).1) in
+    let one = tally_add (λ s. list_holds xs k s b) top x.seat seat (and_right (allowed k x.seat b) _ gone) in
+    let same = tally_same (λ c. eqb c x.seat || list_holds xs k c b) (λ s. list_holds (x ∷ xs) k s b) top (λ s low. here (eqb x.kind k) (eqb x.seat s) (eqb s x.seat) (eqb x.subject b) _ _ mine (flip x.seat s) (more s)) in
+    let this : cond {A = ℕ} (x.kind == k && x.subject == b) 1 0 ≡ 1 = ap (λ t. cond {A = ℕ} t 1 0) mine in
+    omega (arith, longer, rest, one, same, this))
+    (λ (other : (x.kind == k && x.subject == b) ≡ false).
+    let same = tally_same (λ s. list_holds xs k s b) (λ s. list_holds (x ∷ xs) k s b) top (λ s low. there (eqb x.kind k) (eqb x.seat s) (eqb x.subject b) _ _ other (more s)) in
+    let this : cond {A = ℕ} (x.kind == k && x.subject == b) 1 0 ≡ 0 = ap (λ t. cond {A = ℕ} t 1 0) other in
+    omega (arith, longer, rest, same, this))
+    (cases_Bool (x.kind == k && x.subject == b))
+  where
+    here : (kk ss ss' bb y z : Bool) → (kk && bb) ≡ true → ss ≡ ss' → z ≡ ((kk && (ss && bb)) || y) → (ss' || y) ≡ z
+    here kk ss ss' bb y z m e h = grind arith
 
--- what stands past the end of a list that is read
-abbrev pub nothing : SealRecord
-nothing = record { kind = 0; seat = 0; subject = 0 }
-
--- one element more of xs
-pub listed_more : (xs : List SealRecord) (i k s b : ℕ) → i < length xs → listed (take (i + 1) xs) k s b ≡ (listed (take i xs) k s b || is (get_or xs i nothing) k s b)
-listed_more xs i k s b h = ap (λ l. listed l k s b) (take_more xs i nothing h) ∙ listed_push (take i xs) (get_or xs i nothing) k s b
-
--- what stands in the list is listed
-pub listed_at : (xs : List SealRecord) (i k s b : ℕ) → i < length xs → is (get_or xs i nothing) k s b ≡ true → listed xs k s b ≡ true
-listed_at [] i k s b h e = absurd (omega arith)
-listed_at (x ∷ xs) zero k s b h e = ap (λ y. y || listed xs k s b) e
-listed_at (x ∷ xs) (suc i) k s b h e = or_right (is x k s b) (listed xs k s b) (listed_at xs i k s b (le_of_suc-le-suc h) e)
+    there : (kk ss bb y z : Bool) → (kk && bb) ≡ false → z ≡ ((kk && (ss && bb)) || y) → y ≡ z
+    there kk ss bb y z m h = grind arith

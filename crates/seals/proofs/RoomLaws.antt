@@ -1,6 +1,8 @@
 -- A list of seals that can be, none twice, is never longer than there are such seals: 632 rows of 13 seats.
-use Rattle.std.proofs.Common.{◌≡◌, ℕ, ◌+◌, ◌*◌, ◌/◌, ◌%◌, ◌<◌, ◌≤◌, Bool, true, false, not, ◌&&◌, ◌||◌, eqb, ltb, List, [], ◌∷◌, length, sym, refl, ap, ◌∙◌, arith, lit≤}
-use Rattle.std.proofs.lemmas.Bool.{eq-eqb, ne_eqb, ltb-true, and_from, and_parts, or_parts, or_from, not-true, not_from_false, true≢false}
+use Rattle.std.proofs.Common.{◌≡◌, ℕ, ◌+◌, ◌*◌, ◌/◌, ◌%◌, ◌<◌, ◌≤◌, Bool, true, false, eqb, List, [], ◌∷◌, length, sym, refl, ap, ◌∙◌, arith, lit≤}
+use Rattle.std.specs.List.{list_any}
+use Rattle.std.proofs.lemmas.Bool.{ne_eqb, or_parts, or_from, true≢false}
+use Rattle.std.proofs.lemmas.Bool.Decides.{nat_tests}
 use Rattle.std.proofs.lemmas.Nat.{mul-add-lt, div-mul-add, mod-mul-add}
 use Rattle.basics.specs.Count.{tally}
 use Rattle.basics.proofs.CountLaws.{tally_add, tally_le}
@@ -18,10 +20,8 @@ can x = allowed x.kind x.seat x.subject
 abbrev code : SealRecord → ℕ
 code x = row_at x.kind x.subject * 13 + x.seat
 
-can_parts : (x : SealRecord) → can x ≡ true → (row_at x.kind x.subject < 632) × (x.seat < 13)
-can_parts x h =
-    let p = and_parts (ltb (row_at x.kind x.subject) 632) (ltb x.seat 13) (sym (allowed_row x.kind x.seat x.subject) ∙ h) in
-    (ltb-true _ _ p.0, ltb-true _ _ p.1)
+pub can_parts : (x : SealRecord) → can x ≡ true → (row_at x.kind x.subject < 632) × (x.seat < 13)
+can_parts x h = let a = allowed_row x.kind x.seat x.subject in (grind (arith, nat_tests), grind (arith, nat_tests))
 
 code_low : (x : SealRecord) → can x ≡ true → code x < 8216
 code_low x h = let p = can_parts x h in omega (arith, mul-add-lt (row_at x.kind x.subject) 13 x.seat 632 p.0 p.1)
@@ -35,18 +35,14 @@ code_same x y h g e =
     let rows : r ≡ r' = sym (div-mul-add r 13 x.seat p.1) ∙ ap (λ c. c / 13) e ∙ div-mul-add r' 13 y.seat q.1 in
     let seats : x.seat ≡ y.seat = sym (mod-mul-add r 13 x.seat p.1) ∙ ap (λ c. c % 13) e ∙ mod-mul-add r' 13 y.seat q.1 in
     let a = row_apart x.kind x.subject y.kind y.subject p.0 rows in
-    and_from _ _ (eq-eqb _ _ a.0) (and_from _ _ (eq-eqb _ _ seats) (eq-eqb _ _ a.1))
+    grind (arith, nat_tests)
 
 pub sound_parts : (x : SealRecord) (xs : List SealRecord) → sound (x ∷ xs) ≡ true → (can x ≡ true) × (listed xs x.kind x.seat x.subject ≡ false) × (sound xs ≡ true)
-sound_parts x xs h =
-    let p = and_parts (can x && not (listed xs x.kind x.seat x.subject)) (sound xs) h in
-    let q = and_parts (can x) (not (listed xs x.kind x.seat x.subject)) p.0 in
-    (q.0, not-true _ q.1, p.1)
+sound_parts x xs h = (grind arith, grind arith, grind arith)
 
 -- some seal of the list has this number
 abbrev coded : List SealRecord → ℕ → Bool
-coded [] c = false
-coded (x ∷ xs) c = eqb c (code x) || coded xs c
+coded xs c = list_any (λ x. eqb c (code x)) xs
 
 -- a seal that is not in a sound list has a number that is not
 no_code : (x : SealRecord) (xs : List SealRecord) → can x ≡ true → sound xs ≡ true → listed xs x.kind x.seat x.subject ≡ false → coded xs (code x) ≡ false
@@ -68,12 +64,11 @@ as_many top big (x ∷ xs) h =
     let rest = as_many top big xs s.2 in
     omega arith
 
-at_most : (top : ℕ) → 8216 ≤ top → (xs : List SealRecord) → sound xs ≡ true → length xs ≤ top
-at_most top big xs h = omega (arith, as_many top big xs h, tally_le (coded xs) top)
-
 -- where a seal is not listed yet, the list is shorter than 8,216
 pub room_left : (x : SealRecord) (xs : List SealRecord) → sound xs ≡ true → can x ≡ true → listed xs x.kind x.seat x.subject ≡ false → length xs < 8216
-room_left x xs h ok gone =
-    let all : sound (x ∷ xs) ≡ true = and_from _ _ (and_from _ _ ok (not_from_false _ gone)) h in
-    let most : length (x ∷ xs) ≤ 8216 = at_most 8216 (lit≤ tt) (x ∷ xs) all in
-    omega arith
+room_left x xs h ok gone = below 8216 (lit≤ tt)
+  where
+    below : (top : ℕ) → 8216 ≤ top → length xs < top
+    below top big =
+        let all : sound (x ∷ xs) ≡ true = grind arith in
+        omega (arith, as_many top big (x ∷ xs) all, tally_le (coded (x ∷ xs)) top)

@@ -1,88 +1,64 @@
 -- The rows of a row book: which seal stands where, and what one bit more adds.
-use Rattle.std.proofs.Common.{◌≡◌, ℕ, ◌<◌, ◌≤◌, Bool, true, false, ◌&&◌, ◌||◌, eqb, ltb, ◌⊎◌, List, length, get_or, set, sym, ap, ◌∙◌, subst, ap₂, inl, ⊎_elim, arith, get_or-set_other, get_or-set_same}
+use Rattle.std.proofs.Common.{◌≡◌, ℕ, ◌<◌, ◌≤◌, Bool, true, false, ◌&&◌, ◌||◌, eqb, ltb, List, ◌++◌, length, get_or, set, replicate, sym, ap, ◌∙◌, ap₂, arith, get_or-set_other}
 use Rattle.std.proofs.lemmas.Bool.Decides.{nat_tests}
-use Rattle.std.proofs.lemmas.Bool.{cases_eq, eq-eqb, ne_eqb, lt-ltb, le-ltb, and_from, and_left, and_right, cases_lt}
+use Rattle.std.proofs.lemmas.Bool.{and_from, lt-ltb}
+use Rattle.std.proofs.lemmas.Grind.{get_or-set_at}
+use Rattle.std.proofs.lemmas.List.{get_or-replicate, get_or_append_left, length-replicate}
 use Rattle.basics.specs.Bit.{bit}
-use Rattle.basics.specs.Put.{put_below}
-use Rattle.basics.specs.Count.{tally}
+use Rattle.basics.specs.Put.{put, put_below}
 use Rattle.basics.proofs.BitLaws.{bit_none, put_inside}
-use Rattle.basics.proofs.CountLaws.{tally_same, tally_none}
 use Rattle.seals.specs.Seals.{allowed, added, none}
-use Rattle.seals.specs.Rows.{row_holds, row_at, row_inside}
+use Rattle.seals.specs.Rows.{row_holds, row_at}
 use Rattle.seals.proofs.AddedLaws.{same_seal}
 
+-- a seal can be exactly if its kind and subject have a row
 pub allowed_row : (k s b : ℕ) → allowed k s b ≡ (ltb (row_at k b) 632 && ltb s 13)
 allowed_row k s b = grind (arith, nat_tests)
 
 pub row_allowed : (k s b : ℕ) → row_at k b < 632 → s < 13 → allowed k s b ≡ true
 row_allowed k s b h small = allowed_row k s b ∙ and_from _ _ (lt-ltb _ _ h) (lt-ltb _ _ small)
 
-pub row_short : (k s b : ℕ) → (632 ≤ row_at k b) ⊎ (13 ≤ s) → allowed k s b ≡ false
-row_short k s b h = allowed_row k s b ∙ ⊎_elim (λ e. and_left _ _ (le-ltb _ _ e)) (λ e. and_right _ _ (le-ltb _ _ e)) h
-
 -- two kinds and subjects do not share a row
 pub row_apart : (k b k' b' : ℕ) → row_at k b < 632 → row_at k b ≡ row_at k' b' → (k ≡ k') × (b ≡ b')
 row_apart k b k' b' h e = (grind (arith, nat_tests), grind (arith, nat_tests))
 
 row_eq : (k b k' b' : ℕ) → row_at k b < 632 → eqb (row_at k' b') (row_at k b) ≡ (eqb k' k && eqb b' b)
-row_eq k b k' b' h =
-    ⊎_elim
-    (λ (e : row_at k' b' ≡ row_at k b).
-    let p = row_apart k b k' b' h (sym e) in
-    eq-eqb _ _ e ∙ sym (and_from _ _ (eq-eqb k' k (sym p.0)) (eq-eqb b' b (sym p.1))))
-    (λ (ne : row_at k' b' ≡ row_at k b → ⊥).
-    ne_eqb _ _ ne ∙ sym (⊎_elim
-    (λ (kk : k' ≡ k). and_right _ _ (ne_eqb b' b (λ bb. ne (ap₂ row_at kk bb))))
-    (λ (kn : k' ≡ k → ⊥). and_left _ _ (ne_eqb k' k kn))
-    (cases_eq k' k)))
-    (cases_eq (row_at k' b') (row_at k b))
+row_eq k b k' b' h = both (row_at k b) (row_at k' b') (row_apart k b k' b' h) (λ e g. ap₂ row_at e g)
+  where
+    both : (r r' : ℕ) → (r ≡ r' → (k ≡ k') × (b ≡ b')) → (k ≡ k' → b ≡ b' → r ≡ r') → eqb r' r ≡ (eqb k' k && eqb b' b)
+    both r r' to from = grind (arith, nat_tests)
 
--- one number more in one row
-module _ (ms : List ℕ) (r s m : ℕ) (h : r < length ms) (small : s < 16) (more : bit m ≡ put_below 16 s true (bit (get_or ms r 0))) where
-  joined : (s' : ℕ) → bit m s' ≡ (eqb s' s || bit (get_or ms r 0) s')
-  joined s' = ap (λ f. f s') (more ∙ put_inside 16 s true (bit (get_or ms r 0)) small) ∙ grind (arith, nat_tests)
+-- one row written, with one bit more
+at_row : (ms : List ℕ) (r s v r' s' : ℕ) → r < length ms → bit v ≡ put s true (bit (get_or ms r 0))
+    → bit (get_or (set ms r v) r' 0) s' ≡ ((eqb r' r && eqb s' s) || bit (get_or ms r' 0) s')
+at_row ms r s v r' s' h more = let m : bit v s' ≡ put s true (bit (get_or ms r 0)) s' = ap (λ f. f s') more in grind (arith, nat_tests, get_or-set_at, get_or-set_other)
 
-  at_row : (r' s' : ℕ) → bit (get_or (set ms r m) r' 0) s' ≡ ((eqb r' r && eqb s' s) || bit (get_or ms r' 0) s')
-  at_row r' s' =
-      ⊎_elim
-      (λ (e : r' ≡ r).
-      let there : get_or (set ms r m) r' 0 ≡ m = subst (λ (x : ℕ). get_or (set ms r m) x 0 ≡ m) (sym e) (get_or-set_same ms r m 0 h) in
-      ap (λ x. bit x s') there ∙ joined s' ∙ ap₂ (λ x y. (x && eqb s' s) || bit (get_or ms y 0) s') (sym (eq-eqb r' r e)) (sym e))
-      (λ (ne : r' ≡ r → ⊥).
-      ap (λ x. bit x s') (get_or-set_other ms r r' m 0 ne) ∙ ap (λ x. (x && eqb s' s) || bit (get_or ms r' 0) s') (sym (ne_eqb r' r ne)))
-      (cases_eq r' r)
-
--- the seal (kk, ss, bb: same kind, seat, subject) joins y; p: it is allowed
+-- the seal (kk, ss, bb: same kind, seat, subject) joins y; p: it can be
 joins : (p kk ss bb y : Bool) → ((kk && (ss && bb)) ≡ true → p ≡ true) → (p && (((kk && bb) && ss) || y)) ≡ ((kk && (ss && bb)) || (p && y))
 joins p kk ss bb y f = grind arith
 
-pub row_sealed : (ms : List ℕ) (k s b m : ℕ) → 632 ≤ length ms → row_at k b < 632 → s < 13 → bit m ≡ put_below 16 s true (bit (get_or ms (row_at k b) 0)) →
-    row_holds (set ms (row_at k b) m) ≡ added k s b (row_holds ms)
-row_sealed ms k s b m long h small more =
-    let ok : allowed k s b ≡ true = row_allowed k s b h small in
-    let at : (k' s' b' : ℕ) → row_holds (set ms (row_at k b) m) k' s' b' ≡ added k s b (row_holds ms) k' s' b' =
+pub row_sealed : (ms : List ℕ) (k s b r v : ℕ) → 632 ≤ length ms → r ≡ row_at k b → r < 632 → s < 13 → bit v ≡ put_below 16 s true (bit (get_or ms r 0))
+    → row_holds (set ms r v) ≡ added k s b (row_holds ms)
+row_sealed ms k s b r v long at h small more =
+    let here : bit v ≡ put s true (bit (get_or ms r 0)) = more ∙ put_inside 16 s true (bit (get_or ms r 0)) (omega arith) in
+    let low : row_at k b < 632 = omega arith in
+    let ok : allowed k s b ≡ true = row_allowed k s b low small in
+    let each : (k' s' b' : ℕ) → row_holds (set ms r v) k' s' b' ≡ added k s b (row_holds ms) k' s' b' =
     (λ k' s' b'.
+    let y = bit (get_or ms (row_at k' b') 0) s' in
     ap (λ x. allowed k' s' b' && x)
-    (at_row ms (row_at k b) s m (omega arith) (omega arith) more (row_at k' b') s' ∙ ap (λ x. (x && eqb s' s) || bit (get_or ms (row_at k' b') 0) s') (row_eq k b k' b' h))
-    ∙ joins (allowed k' s' b') (eqb k' k) (eqb s' s) (eqb b' b) (bit (get_or ms (row_at k' b') 0) s') (λ e. same_seal allowed k s b k' s' b' e ∙ ok)
+    (at_row ms r s v (row_at k' b') s' (omega arith) here ∙ ap (λ x. (x && eqb s' s) || y) (ap (λ x. eqb (row_at k' b') x) at ∙ row_eq k b k' b' low))
+    ∙ joins (allowed k' s' b') (eqb k' k) (eqb s' s) (eqb b' b) y (λ e. same_seal allowed k s b k' s' b' e ∙ ok)
     ∙ ap (λ x. (x && (eqb k' k && (eqb s' s && eqb b' b))) || row_holds ms k' s' b') (sym ok)) in
-    λ i k' s' b'. at k' s' b' i
+    λ i k' s' b'. each k' s' b' i
 
-pub in_row : (ms : List ℕ) (k s b : ℕ) → row_at k b < 632 → s < 13 → bit (get_or ms (row_at k b) 0) s ≡ row_holds ms k s b
-in_row ms k s b h small = sym (ap (λ p. p && bit (get_or ms (row_at k b) 0) s) (row_allowed k s b h small))
-
-pub row_count : (ms : List ℕ) (k b : ℕ) → row_at k b < 632 → tally (bit (get_or ms (row_at k b) 0)) 13 ≡ tally (λ s. row_holds ms k s b) 13
-row_count ms k b h = tally_same _ _ 13 (λ s small. in_row ms k s b h small)
-
-pub no_row_count : (ms : List ℕ) (k b : ℕ) → 632 ≤ row_at k b → tally (λ s. row_holds ms k s b) 13 ≡ 0
-no_row_count ms k b h = tally_none _ 13 (λ s small. row_inside ms k s b (row_short k s b (inl h)))
-
--- all rows empty
-pub row_cleared : (ms : List ℕ) → ((i : ℕ) → i < 632 → get_or ms i 0 ≡ 0) → row_holds ms ≡ none
-row_cleared ms h =
-    let at : (k s b : ℕ) → row_holds ms k s b ≡ false =
-    (λ k s b. ⊎_elim
-    (λ (lt : row_at k b < 632). and_right (allowed k s b) (bit (get_or ms (row_at k b) 0) s) (ap (λ x. bit x s) (h (row_at k b) lt) ∙ bit_none s))
-    (λ (le : 632 ≤ row_at k b). row_inside ms k s b (row_short k s b (inl le)))
-    (cases_lt (row_at k b) 632)) in
-    λ i k s b. at k s b i
+-- the rows empty, and whatever stands past them
+pub row_cleared : (n : ℕ) (xs : List ℕ) → 632 ≤ n → row_holds (replicate n 0 ++ xs) ≡ none
+row_cleared n xs h =
+    let each : (k s b : ℕ) → row_holds (replicate n 0 ++ xs) k s b ≡ false =
+    (λ k s b.
+    let ok = allowed_row k s b in
+    let empty = bit_none s in
+    let long = length-replicate {A = ℕ} n 0 in
+    grind (arith, nat_tests, get_or-replicate, get_or_append_left)) in
+    λ i k s b. each k s b i

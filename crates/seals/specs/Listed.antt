@@ -1,17 +1,17 @@
 -- The seals that a list of records holds, oldest first.
-use Rattle.std.specs.Prelude.{◌≡◌, ℕ, Bool, true, false, not, ◌&&◌, ◌||◌, List, [], ◌∷◌, ◌==◌}
+use Rattle.std.specs.Prelude.{◌≡◌, ℕ, Bool, true, false, not, ◌&&◌, List, [], ◌∷◌, ◌==◌}
+use Rattle.std.specs.List.{list_any}
 use Rattle.std.proofs.Common.{ap}
 use Rattle.seals.specs.Seals.{allowed}
 use Rattle.seals.specs.declared.record.SealRecord.{SealRecord}
 
 -- the record is of this seal
 abbrev pub is : SealRecord → ℕ → ℕ → ℕ → Bool
-is x k s b = k == x.kind && (s == x.seat && b == x.subject)
+is x k s b = x.kind == k && (x.seat == s && x.subject == b)
 
 -- some record of the list is
 abbrev pub listed : List SealRecord → ℕ → ℕ → ℕ → Bool
-listed [] k s b = false
-listed (x ∷ xs) k s b = is x k s b || listed xs k s b
+listed xs k s b = list_any (λ x. is x k s b) xs
 
 -- the list has only seals that there can be, and none twice
 abbrev pub sound : List SealRecord → Bool

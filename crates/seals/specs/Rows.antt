@@ -4,7 +4,7 @@ use Rattle.std.proofs.Common.{ap}
 use Rattle.basics.specs.Bit.{bit}
 use Rattle.seals.specs.Seals.{allowed, between}
 
--- the row of a kind and a subject, or 632 where there is none
+-- the row of a kind and a subject, or 632 where there is none (and then no seal is allowed)
 abbrev pub row_at : ℕ → ℕ → ℕ
 row_at k b = cond (k == 2 && between 1 312 b) (b - 1) (cond (k == 4 && between 1 312 b) (312 + (b - 1)) (cond (k == 6 && between 1 8 b) (624 + (b - 1)) 632))
 

@@ -4,6 +4,7 @@ ghost use Rattle.basics.specs.Count.{tally};
 ghost use Rattle.seals.specs.Seals.{allowed, added, none};
 
 /// What can be asked of a set of seals. A seal is a signature of a seat, of a kind (2, 4 or 6) and on a subject (a block or a round).
+// (kind, seat and subject are numbers and no types with ranges: that the answer outside the ranges is no or 0, and that nothing is written there, is a promise of its own)
 pub trait SealView {
     /// The set: whether the seal of this kind, seat and subject is in it.
     ghost held: { Self → ℕ → ℕ → ℕ → Bool };
@@ -30,16 +31,4 @@ pub trait SealBook: SealView {
     fn seal(&mut self, kind: u8, seat: u8, subject: u16) -> bool
         ensures answer { result ≡ (allowed kind seat subject && not (Self.SealView.held self.old kind seat subject)) }
         ensures after { Self.SealView.held self.new ≡ added kind seat subject (Self.SealView.held self.old) };
-}
-
-/// Someone who works with a book, whichever it is. (A book over a lent slice cannot be returned in a `Result`, so it is handed on instead.)
-pub trait BookUser {
-    type Answer;
-
-    /// Which answers there may be, with any book.
-    ghost answers: { Self → Self.Answer → Type 0 };
-
-    /// Does the work with the book, and answers.
-    fn run<B: SealBook + Drop>(self, book: B) -> Self::Answer
-        ensures { answers self result };
 }

@@ -3,7 +3,7 @@ ghost use Rattle.std.specs.Prelude.{◌≡◌};
 ghost use Rattle.seals.specs.Lending.{seal_fault_number};
 
 /// The refusals of a seal book.
-#[derive(Clone, Copy)]
+#[derive(Clone, Copy, Debug, PartialEq, Eq)]
 pub enum SealFault {
     /// The buffer is too short.
     Short,
@@ -17,5 +17,21 @@ impl SealFault {
         match self {
             SealFault::Short => 4,
         }
+    }
+}
+
+/// A buffer that is too short for a book. It comes back as it was.
+#[derive(Debug, Drop)]
+pub struct ShortBuffer<'a, T> {
+    pub buffer: &'a mut [T],
+}
+
+impl<'a, T> From<ShortBuffer<'a, T>> for SealFault {
+    ghost use Rattle.seals.specs.declared.fault.SealFault.TheVariants.{Short};
+
+    ghost from_gives = { λ _ fault. fault ≡ Short };
+
+    fn from(_: ShortBuffer<'a, T>) -> SealFault {
+        SealFault::Short
     }
 }

@@ -1,9 +1,9 @@
 //! One seal as a record, as a list of them keeps it.
 ghost use Rattle.std.specs.Prelude.{◌≡◌};
-ghost use Rattle.seals.specs.Listed.{is};
+ghost use Rattle.seals.specs.Seals.{allowed};
 
 /// A seal: which kind, by which seat, on which block or round.
-#[derive(Clone, Copy)]
+#[derive(Clone, Copy, Debug, PartialEq, Eq)]
 pub struct SealRecord {
     pub kind: u8,
     pub seat: u8,
@@ -11,10 +11,10 @@ pub struct SealRecord {
 }
 
 impl SealRecord {
-    /// Whether it is the seal of this kind, seat and subject.
-    pub fn is_of(self, kind: u8, seat: u8, subject: u16) -> bool
-        ensures { result ≡ is self kind seat subject }
+    /// Whether there can be such a seal.
+    pub fn is_allowed(self) -> bool
+        ensures { result ≡ allowed self.kind self.seat self.subject }
     {
-        kind == self.kind && seat == self.seat && subject == self.subject
+        self.seat < 13 && matches!((self.kind, self.subject), (2 | 4, 1..=312) | (6, 1..=8))
     }
 }
