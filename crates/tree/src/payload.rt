@@ -18,10 +18,8 @@ impl Payload {
         ensures { payload_list result ≡ list_if_ok places.now }
     {
         let list = InlineList::from_slice(places)?;
-        places
-            .iter()
-            .all(|x| *x < 128)
-            .then_some(Payload { places: list })
+        let are_low = places.iter().all(|x| *x < 128);
+        are_low.then_some(Payload { places: list })
     }
 
     /// The payload with no place.

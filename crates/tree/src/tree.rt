@@ -18,10 +18,10 @@ pub struct Tree {
 }
 
 impl Tree {
-    ghost use Rattle.std.specs.Prelude.{◌≡◌, ℕ, true, false, List, []};
+    ghost use Rattle.std.specs.Prelude.{◌≡◌, ℕ, true, false, List, [], option_copied};
     ghost use Rattle.basics.specs.Put.{put};
     ghost use Rattle.tree.specs.Payloads.{listed};
-    ghost use Rattle.tree.specs.Blocks.{mades, parents, payloads};
+    ghost use Rattle.tree.specs.Blocks.{block_at, mades, parents, payloads};
 
     /// The tree with no block but the root.
     pub fn new() -> Tree
@@ -34,35 +34,39 @@ impl Tree {
         }
     }
 
+    // the block of this number, if it was made
+    fn at(&self, number: BlockNumber) -> Option<&Block>
+        ensures { option_copied result ≡ block_at self.now number.value }
+    {
+        self.blocks[number.value() as usize].as_ref()
+    }
+
     /// Whether the block was made.
     pub fn is_made(&self, block: BlockNumber) -> bool
         ensures { result ≡ mades self.now block.value }
     {
-        self.blocks[block.value() as usize].is_some()
+        self.at(block).is_some()
     }
 
     /// The parent of a block; the root for a block that was not made.
     pub fn parent(&self, block: BlockNumber) -> BlockNumber
         ensures { result.value ≡ parents self.now block.value }
     {
-        self.blocks[block.value() as usize].map_or(BlockNumber::capped(0), |made| made.parent)
+        self.at(block).map_or(BlockNumber::capped(0), |b| b.parent)
     }
 
     /// The payload of a block; empty for a block that was not made.
     pub fn payload(&self, block: BlockNumber) -> Payload
         ensures { listed result ≡ payloads self.now block.value }
     {
-        self.blocks[block.value() as usize].map_or(Payload::empty(), |made| made.payload)
+        self.at(block).map_or(Payload::empty(), |b| b.payload)
     }
 
     // the places of a block; none for a block that was not made
     fn places(&self, block: BlockNumber) -> &[u8]
         ensures { result.now ≡ payloads self.now block.value }
     {
-        match &self.blocks[block.value() as usize] {
-            Some(made) => made.payload.as_slice(),
-            None => &[],
-        }
+        self.at(block).map_or(&[], |b| b.payload.as_slice())
     }
 
     /// Makes the block.

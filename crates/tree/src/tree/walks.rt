@@ -1,5 +1,7 @@
 //! Walks from a block to the root: soundness and validity.
-ghost use Rattle.std.specs.Prelude.{◌≡◌, MatchOption};
+ghost use Rattle.std.specs.Prelude.{◌≡◌, ◌&&◌, MatchOption};
+ghost use Rattle.model.specs.World.{block as block_message, notarization};
+ghost use Rattle.messages.specs.Stored.{stored};
 
 use super::Tree;
 use crate::payload::Payload;
@@ -7,6 +9,13 @@ use basics::numbers::BlockNumber;
 use messages::message::Message;
 use messages::set::MessageSet;
 use plans::plan::Plan;
+
+// whether the block and its notarization are in the pool
+fn has_notarized(pool: &MessageSet, block: BlockNumber) -> bool
+    ensures { result ≡ (stored pool.now (block_message block.value) && stored pool.now (notarization block.value)) }
+{
+    pool.contains(Message::Block(block)) && pool.contains(Message::Notarization(block))
+}
 
 // the chain of a block, of this round, as a plan judges it
 #[derive(Clone, Copy)]
@@ -18,37 +27,44 @@ struct Chain<'a> {
 }
 
 impl Chain<'_> {
-    ghost use Rattle.model.specs.World.{unlike_all, sound};
-    ghost use Rattle.messages.specs.Stored.{stored};
-    ghost use Rattle.plans.specs.Planned.{model};
-    ghost use Rattle.tree.specs.Blocks.{notarized_in, valid_in};
-    ghost use Rattle.tree.specs.Chains.{places_on, HasParent};
+    ghost use Rattle.tree.specs.Chains.{HasParent, last_places, places_on, unlike_by, sound_on, notarized_on, valid_on};
 
     // the chain of the parent; none of a block of round 0, the root
-    fn parent(self) -> Option<Self>
-        ensures { MatchOption result (self.entry.round ≡ 0) (HasParent self.entry) }
+    fn parent(&self) -> Option<Self>
+        ensures { MatchOption result (self.now.round ≡ 0) (HasParent self.now) }
     {
         let round = self.round.checked_sub(1)?;
         Some(Chain {
             round,
             block: self.tree.parent(self.block),
-            ..self
+            ..*self
         })
     }
 
-    // whether no place of the chain is like x
-    fn is_unlike(self, x: u8) -> bool
-        ensures { result ≡ unlike_all (model self.entry.plan.now) x (places_on self.entry) }
+    // the places of the last block
+    fn places(&self) -> &[u8]
+        ensures { result.now ≡ last_places self.now }
     {
-        let Some(parent) = self.parent() else {
-            return true;
-        };
-        self.plan.unlike(x, self.tree.places(self.block)) && parent.is_unlike(x)
+        self.tree.places(self.block)
+    }
+
+    // whether no place of the chain is like x
+    fn is_unlike(&self, x: u8) -> bool
+        ensures { result ≡ unlike_by self.now x (places_on self.now) }
+    {
+        let mut chain = *self;
+        while let Some(parent) = chain.parent() {
+            if !chain.plan.unlike(x, chain.places()) {
+                return false;
+            }
+            chain = parent;
+        }
+        true
     }
 
     // whether the places are sound on the chain
-    fn bears(self, places: &[u8]) -> bool
-        ensures { result ≡ sound (model self.entry.plan.now) (places_on self.entry) places.now }
+    fn bears(&self, places: &[u8]) -> bool
+        ensures { result ≡ sound_on self.now places.now }
     {
         places.iter().enumerate().all(|(i, x)| {
             *x < self.plan.entries() && self.is_unlike(*x) && self.plan.unlike(*x, &places[..i])
@@ -56,34 +72,35 @@ impl Chain<'_> {
     }
 
     // whether the pool says that the last block is notarized
-    #[cycle(walk)]
-    fn is_notarized(self, pool: &MessageSet) -> bool
-        ensures { let x = self.entry in result ≡ notarized_in (model x.plan.now) x.tree.now (stored pool.now) x.round x.block.value }
+    fn is_notarized(&self, pool: &MessageSet) -> bool
+        ensures { result ≡ notarized_on self.now (stored pool.now) }
     {
-        if self.round == 0 {
-            return self.block.value() == 0;
+        let mut chain = *self;
+        while let Some(parent) = chain.parent() {
+            if !has_notarized(pool, chain.block) || !parent.bears(chain.places()) {
+                return false;
+            }
+            chain = parent;
         }
-        pool.contains(Message::Notarization(self.block)) && self.is_valid(pool)
+        chain.block.value() == 0
     }
 
     // whether the pool says that the last block is valid
-    #[cycle(walk)]
-    fn is_valid(self, pool: &MessageSet) -> bool
-        ensures { let x = self.entry in result ≡ valid_in (model x.plan.now) x.tree.now (stored pool.now) x.round x.block.value }
+    fn is_valid(&self, pool: &MessageSet) -> bool
+        ensures { result ≡ valid_on self.now (stored pool.now) }
     {
         let Some(parent) = self.parent() else {
             return self.block.value() == 0;
         };
         pool.contains(Message::Block(self.block))
             && parent.is_notarized(pool)
-            && parent.bears(self.tree.places(self.block))
+            && parent.bears(self.places())
     }
 }
 
 impl Tree {
     ghost use Rattle.model.specs.Setup.{round_of};
     ghost use Rattle.model.specs.World.{sound};
-    ghost use Rattle.messages.specs.Stored.{stored};
     ghost use Rattle.plans.specs.Planned.{model};
     ghost use Rattle.tree.specs.Payloads.{listed};
     ghost use Rattle.tree.specs.Blocks.{chain_places, notarized_in, valid_in};

@@ -23,7 +23,7 @@ pub returns : goal.returns
 returns c =
     let xs = c.args.places.now in
     let taken = ap elements_of (sym c.in_ok-list.was) ∙ c.from_slice.ensures in
-    let low : c.all.result ≡ list_all (λ x. ltb x 128) xs =
-    all_from_yields_List (λ x. ltb x 128) _ _ _ c.all.ensures.ran (YieldsList-from_slice xs cc) (λ x b q k. search (rules, tests)) in
-    ap payload_list c.then_some.ensures ∙ kept (leb (length xs) 4) c.all.result xs _ taken
+    let low : c.all-are_low.result ≡ list_all (λ x. ltb x 128) xs =
+    all_from_yields_List (λ x. ltb x 128) _ _ _ c.all-are_low.ensures.ran (YieldsList-from_slice xs cc) (λ x b q k. search (rules, tests)) in
+    ap payload_list c.then_some.ensures ∙ kept (leb (length xs) 4) c.all-are_low.result xs _ taken
     ∙ ap (λ b. cond (leb (length xs) 4 && b) (Some xs) None) (low ∙ list_all-low xs)
