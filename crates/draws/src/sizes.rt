@@ -41,10 +41,10 @@ impl Sizes {
     }
 
     /// How many pairs of a round and a seat there are.
-    pub fn pairs(self) -> u8
+    pub fn pairs(self) -> u16
         ensures { result ≡ self.seats * self.rounds }
     {
-        self.seats * self.rounds
+        self.seats as u16 * self.rounds as u16
     }
 
     /// Whether there is this seat in this round.

@@ -33,7 +33,7 @@ fn state_of(phase: Phase) -> u8
 
 /// The report of how a seat stands.
 fn report(standing: Standing<'_>) -> SeatReport<'_>
-    requires { length standing.entry.catalogue.now ≤ 8 }
+    requires { length standing.catalogue.now ≤ 8 }
     ensures { (x : Seat) → Stands standing.entry x → Reported result x }
 {
     SeatReport {

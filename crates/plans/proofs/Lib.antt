@@ -4,5 +4,4 @@ pub mod Drawn
 pub mod Likeness
 pub mod Fresh
 pub mod Places
-pub mod Searches
 pub mod Filled

@@ -154,7 +154,7 @@ impl Plan {
         ensures is { result ≡ numbers (model self.now) }
         ensures few { result ≤ 313 }
     {
-        1 + self.sizes.pairs() as u16 * 3
+        1 + self.sizes.pairs() * 3
     }
 
     /// The round of a block; the root's is 0.
@@ -209,9 +209,14 @@ impl Plan {
     pub fn holder(&self, round: Round, rank: Rank) -> Option<SeatIndex>
         ensures { number_value result ≡ held_by (model self.now) round.value rank.value }
     {
-        (0..self.sizes.seats())
-            .map(SeatIndex::capped)
-            .find(|&seat| self.rank(round, seat) == rank)
+        // a loop, since `map` and `find` take a quarter more instructions where a seat looks for the best block
+        for s in 0..self.sizes.seats() {
+            let seat = SeatIndex::capped(s);
+            if self.rank(round, seat) == rank {
+                return Some(seat);
+            }
+        }
+        None
     }
 
     /// How long a seat of this rank waits before it proposes.

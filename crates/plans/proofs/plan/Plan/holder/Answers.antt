@@ -1,25 +1,36 @@
-use Rattle.std.proofs.Common.{◌≡◌, ℕ, ◌<◌, Some, None, Option, eqb, min, refl, ◌∙◌, rules, tests, arith}
-use Rattle.std.specs.Option.{option_map}
-use Rattle.basics.specs.Numbers.{number_value}
-use Rattle.basics.specs.declared.ranged.Number.{Number}
-use Rattle.std.proofs.lemmas.Iterator.{YieldsList-from_range, YieldsList-from_map_by}
-use Rattle.std.proofs.lemmas.Iterator.Search.{find_from_yields_List}
+use Rattle.std.proofs.Common.{◌≡◌, ℕ, ◌<◌, Bool, true, false, eqb, Some, None, sym, ap, ◌∙◌, arith, rules, tests}
+use Rattle.std.proofs.lemmas.Bool.{cond-true, cond-false}
+use Rattle.basics.specs.Count.{some_below}
+use Rattle.model.specs.Setup.{holder}
+use Rattle.model.proofs.Searches.{find, first_at, none_more}
 use Rattle.plans.specs.Planned.{model}
-use Rattle.plans.proofs.Searches.{find_below}
 use Rattle.plans.proofs.plan.Plan.holder.Goals as goal
 
-told : {K : _} {R : _} (r : Option (Number K R)) → number_value r ≡ option_map (λ s. s.value) r
-told (Some s) = refl
-told None = refl
+pub loop-s-preserved : goal.loop-s-preserved
+loop-s-preserved c =
+    let p = model c.args.self.now in
+    let k = c.args.round.value in
+    let has : ℕ → Bool = λ s. eqb (p.rank k s) c.args.rank.value in
+    let at : c.capped-seat.result.value ≡ c.loop-s.s = omega (arith, c.capped-seat.ensures, c.args.self.now.sizes.within.few_seats) in
+    let other : eqb c.rank.result.value c.args.rank.value ≡ false = search (rules, tests) in
+    none_more has c.loop-s.s c.loop-s.invariant (ap has (sym at) ∙ ap (λ r. eqb r c.args.rank.value) (sym c.rank.ensures) ∙ other)
+
+pub returns-then-eq : goal.returns-then-eq
+returns-then-eq c =
+    let p = model c.args.self.now in
+    let k = c.args.round.value in
+    let has : ℕ → Bool = λ s. eqb (p.rank k s) c.args.rank.value in
+    let at : c.capped-seat.result.value ≡ c.loop-s.s = omega (arith, c.capped-seat.ensures, c.args.self.now.sizes.within.few_seats) in
+    let low : c.loop-s.s < p.n = omega (arith, c.seats-s-end.ensures) in
+    let same : eqb c.rank.result.value c.args.rank.value ≡ true = search (rules, tests) in
+    let here : has c.loop-s.s ≡ true = ap has (sym at) ∙ ap (λ r. eqb r c.args.rank.value) (sym c.rank.ensures) ∙ same in
+    ap Some (at ∙ sym (first_at has p.n c.loop-s.s low c.loop-s.invariant here))
+    ∙ sym (cond-true (some_below has p.n) (Some (holder p k c.args.rank.value)) None (find has p.n c.loop-s.s low here))
 
 pub returns : goal.returns
 returns c =
     let p = model c.args.self.now in
     let k = c.args.round.value in
-    let q = c.args.rank.value in
-    let low : (s : ℕ) → s < p.n → min s 12 ≡ s = (λ s h. omega (arith, c.args.self.now.sizes.within.few_seats)) in
-    told c.find.result
-    ∙ find_from_yields_List (λ s. eqb (p.rank k s) q) _ _ c.find.result c.find.ensures.ran
-    (YieldsList-from_map_by _ (λ s. s.value) (λ (s : ℕ). min s 12) (YieldsList-from_range 0 p.n p.n (cc) (omega arith)) c.map.ensures.closure (λ x r q k. search rules))
-    (λ x b q k. search (rules, tests))
-    ∙ find_below (λ s. min s 12) (λ s. eqb (p.rank k s) q) p.n low
+    let has : ℕ → Bool = λ s. eqb (p.rank k s) c.args.rank.value in
+    let e : c.loop-s.s ≡ p.n = omega (arith, c.seats-s-end.ensures) in
+    sym (cond-false (some_below has p.n) (Some (holder p k c.args.rank.value)) None (ap (some_below has) (sym e) ∙ c.loop-s.invariant))
