@@ -9,8 +9,8 @@ ghost use Rattle.plans.specs.Tables.{RanksBelow, RanksApart, LikeSelf, LikeBack}
 ghost use Rattle.plans.specs.Places.{SetOf, can_follow};
 
 use crate::fault::PlanFault;
-use basics::numbers::{BlockNumber, Rank, Round, SeatIndex};
 use basics::mask::{self, Mask};
+use basics::numbers::{BlockNumber, Rank, Round, SeatIndex};
 use draws::draw::Draw;
 use draws::sizes::Sizes;
 use entries::entry::Entry;
@@ -258,11 +258,7 @@ impl Plan {
     pub fn with_place(&self, set: u128, x: u8) -> u128
         ensures { (ys : List ℕ) → SetOf (model self.now) set ys → SetOf (model self.now) result (ys ++ (x ∷ [])) }
     {
-        if x < self.entries {
-            set.with(x)
-        } else {
-            set
-        }
+        if x < self.entries { set.with(x) } else { set }
     }
 
     /// Every plan is lawful: nothing else is needed for the law.

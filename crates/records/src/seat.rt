@@ -23,7 +23,13 @@ fn seat_frame(seat: u8, report: SeatReport) -> Option<InlineList<u8, 21>>
     if report.catalogue.len() > 8 {
         return None;
     }
-    let mut frame = InlineList::from_slice(&[0xe0, seat, report.state, report.round, report.k_max])?;
+    let mut frame = InlineList::from_slice(&[
+        0xe0,
+        seat,
+        report.state,
+        report.round,
+        report.k_max,
+    ])?;
     for block in report.catalogue {
         let [high, low] = block.to_be_bytes();
         frame.push(high);
