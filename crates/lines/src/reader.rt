@@ -76,6 +76,13 @@ impl<'a> Reader<'a> {
             line: 0,
         }
     }
+
+    /// How many lines were read.
+    pub fn line(&self) -> u16
+        ensures { result ≡ line_now self.now }
+    {
+        self.line
+    }
 }
 
 impl<'a> Iterator for Reader<'a> {
