@@ -14,12 +14,12 @@ use Rattle.seats.proofs.seat.Seat.best_of_rank.Goals as goal
 pub returns-in_err-maker : goal.returns-in_err-maker
 returns-in_err-maker c =
     ap block_value c.from_residual.ensures
-    ∙ none_holds (model c.args.at.plan.now) c.args.at.tree.now c.args.self.now c.args.rank.value (plan_is_lawful c.args.at.plan.now) c.args.q.value (c.in_err-maker.ensures)
+    ∙ none_holds (model c.args.plan.now) c.args.tree.now c.args.self.now c.args.rank.value (plan_is_lawful c.args.plan.now) c.args.q.value (c.in_err-maker.ensures)
 
 pub returns : goal.returns
 returns c =
-    let p = model c.args.at.plan.now in
-    let t = c.args.at.tree.now in
+    let p = model c.args.plan.now in
+    let t = c.args.tree.now in
     let x = c.args.self.now in
     let r = c.args.rank.value in
     let m = c.in_ok-maker.maker.value in
