@@ -13,7 +13,7 @@ use Rattle.seals.proofs.AddedLaws.{same_seal}
 use Rattle.seals.proofs.RoomLaws.{can, can_parts, sound_parts}
 
 -- one seal more at the end
-listed_push : (xs : List SealRecord) (z : SealRecord) (k s b : ℕ) → listed (xs ++ z ∷ []) k s b ≡ (listed xs k s b || is z k s b)
+pub listed_push : (xs : List SealRecord) (z : SealRecord) (k s b : ℕ) → listed (xs ++ z ∷ []) k s b ≡ (listed xs k s b || is z k s b)
 listed_push xs z k s b = list_any-append (λ x. is x k s b) xs (z ∷ []) ∙ ap (λ y. listed xs k s b || y) (off (is z k s b))
   where
     off : (a : Bool) → (a || false) ≡ a
