@@ -33,7 +33,8 @@ pub trait SealBook: SealView {
         ensures after { Self.SealView.held self.new ≡ added kind seat subject (Self.SealView.held self.old) };
 }
 
-/// Someone who works with a book, whichever it is. (A book over a lent slice cannot be returned in a `Result`, so it is handed on instead.)
+/// Someone who works with a book, whichever it is.
+// (A buffer that comes back in an error is not tied to the caller's again; so a book is lent, and what a refused buffer holds is promised.)
 pub trait BookUser {
     type Answer;
 
