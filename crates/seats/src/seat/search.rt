@@ -23,9 +23,7 @@ impl Seat {
             return false;
         }
         let q = plan.rank_of(c).value();
-        q < rank.value()
-            && !self.progress.disqualified.has(q)
-            && tree.valid(plan, &self.pool, c)
+        q < rank.value() && !self.progress.disqualified.has(q) && tree.valid(plan, &self.pool, c)
     }
 
     // the first block that is better than the rank, of those that the holder of rank q made in the seat's round
