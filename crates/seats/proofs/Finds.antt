@@ -7,7 +7,7 @@ use native.Mathlib.Decide.{dec_lt}
 use Rattle.basics.specs.Count.{some_below, first_below}
 use Rattle.basics.specs.Numbers.{only_if, block_value}
 use Rattle.basics.specs.declared.numbers.BlockNumber.{BlockNumber}
-use Rattle.model.specs.Setup.{Lawful, round_of, rank_of, number, holder, in_order}
+use Rattle.model.specs.Setup.{Lawful, round_of, number, holder, in_order}
 use Rattle.model.specs.Setup.{Plan as Model}
 use Rattle.model.proofs.Numbering.{number_out}
 use Rattle.model.proofs.Searches.{find, first_at, first_found, first_none, none_below, no_below}

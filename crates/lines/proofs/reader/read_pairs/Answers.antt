@@ -1,8 +1,7 @@
 -- Each turn reads a pair; the loop ends where none is left, or no room for it.
-use Rattle.std.proofs.Common.{rules, ◌≡◌, ℕ, ◌+◌, ◌-◌, ◌*◌, ◌<◌, List, [], ◌∷◌, ◌++◌, length, take, drop, min, slice_set, sym, ap, ◌∙◌, arith, length-drop, length-take, length-set, drop-drop}
+use Rattle.std.proofs.Common.{rules, ◌≡◌, ◌+◌, ◌-◌, ◌*◌, ◌++◌, length, take, drop, min, slice_set, sym, ap, ◌∙◌, arith, length-drop, length-take, length-set, drop-drop}
 use Rattle.std.proofs.lemmas.List.{take_all, take_more_set}
 use Rattle.lines.specs.Lines.{leading_bytes}
-use Rattle.basics.specs.Elements.{elements}
 use Rattle.lines.proofs.PairLaws.{one_read, no_more, no_room, no_pair_here}
 use Rattle.lines.proofs.reader.read_pairs.Goals.{else-loop-count-test, then-loop-count-test+then-behind-lt2, then-loop-count-test+in-len2-up+in-None-1}
 use Rattle.lines.proofs.reader.read_pairs.Goals as goal

@@ -1,4 +1,4 @@
-use Rattle.std.proofs.Common.{◌≡◌, ℕ, Bool, ◌+◌, min, map, None, sym, refl, ap, ◌∙◌, rules}
+use Rattle.std.proofs.Common.{min, refl, ap, ◌∙◌, rules}
 use Rattle.std.proofs.lemmas.Iterator.{YieldsList-from_range, YieldsList-from_map_by}
 use Rattle.std.proofs.lemmas.Iterator.Consumers.{YieldsList-at}
 use Rattle.std.proofs.lemmas.Iterator.Search.{find_from_yields_List}
@@ -8,7 +8,7 @@ use Rattle.model.specs.Setup.{number}
 use Rattle.plans.specs.Planned.{model}
 use Rattle.plans.proofs.Lawfulness.{plan_is_lawful}
 use Rattle.seats.specs.Searches.{better_in}
-use Rattle.seats.proofs.Finds.{none_holds, first_of_rank, some_found}
+use Rattle.seats.proofs.Finds.{none_holds, first_of_rank}
 use Rattle.seats.proofs.seat.Seat.best_of_rank.Goals as goal
 
 pub returns-in_err-maker : goal.returns-in_err-maker
