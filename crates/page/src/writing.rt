@@ -33,7 +33,6 @@ fn state_of(phase: Phase) -> u8
 
 /// The report of how a seat stands.
 fn report(standing: &Standing) -> SeatReport
-    requires { length (elements standing.now.catalogue) ≤ 8 }
     ensures { (x : Seat) → Stands standing.now x → Reported result x }
 {
     let blocks = standing.catalogue.as_slice();

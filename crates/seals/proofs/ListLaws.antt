@@ -48,6 +48,13 @@ holds_more x xs k s b ok = joins (allowed k s b) (can x) (is x k s b) (listed xs
     joins : (q p w y : Bool) → p ≡ true → (w ≡ true → p ≡ q) → (q && (w || y)) ≡ (w || (q && y))
     joins q p w y ok same = grind arith
 
+-- in a sound list there are only seals that there can be
+pub listed_allowed : (xs : List SealRecord) (k s b : ℕ) → sound xs ≡ true → listed xs k s b ≡ list_holds xs k s b
+listed_allowed [] k s b h = sym (and_right (allowed k s b) false refl)
+listed_allowed (x ∷ xs) k s b h =
+    let p = sound_parts x xs h in
+    ap (λ y. is x k s b || y) (listed_allowed xs k s b p.2) ∙ sym (holds_more x xs k s b p.0)
+
 -- The records of one kind and subject are as many as the seats that have sealed it.
 -- (the bound is a variable here, since a count up to a numeral would be written out)
 pub counted : (top : ℕ) → 13 ≤ top → (k b : ℕ) (xs : List SealRecord) → sound xs ≡ true
