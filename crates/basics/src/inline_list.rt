@@ -14,6 +14,12 @@ pub struct InlineList<T, const N: usize> {
 
 // By hand: a generic struct with a ghost field cannot derive `Clone`
 impl<T: Copy, const N: usize> Clone for InlineList<T, N> {
+    ghost use Rattle.std.specs.Prelude.{◌≡◌, ⊤};
+
+    ghost is_clone = { λ x y. y ≡ x };
+
+    ghost is_infallible = { λ _. ⊤ };
+
     fn clone(&self) -> Result<Self, AllocError> {
         Ok(*self)
     }

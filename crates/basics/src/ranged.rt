@@ -33,6 +33,12 @@ pub struct Number<K: Kind> {
 
 // By hand: a generic struct with a ghost field cannot derive `Clone`
 impl<K: Kind> Clone for Number<K> {
+    ghost use Rattle.std.specs.Prelude.{◌≡◌, ⊤};
+
+    ghost is_clone = { λ x y. y ≡ x };
+
+    ghost is_infallible = { λ _. ⊤ };
+
     fn clone(&self) -> Result<Self, AllocError> {
         Ok(*self)
     }

@@ -41,13 +41,12 @@ module _ (n R : ℕ) where
       cond-true (drawn n R (suc j) s) (get_or xs ((suc j - 1) * n + s) 0) 0 (and_from _ _ (lt-ltb s n g) (and_from _ _ (le-leb 1 (suc j) (omega arith)) (le-leb (suc j) R (omega arith))))
       ∙ ap (λ k. get_or xs (k * n + s) 0) e
 
-  -- a round of the table is judged by its own cells
-  pub round_same : (xs ys : List ℕ) (j : ℕ) → j < R → length ys ≡ n → ((s d : ℕ) → s < n → get_or ys s d ≡ get_or xs (j * n + s) d)
-      → some_below (misplaced (length ys) (slice_index ys)) (length ys) ≡ some_below (misplaced n (table_rank n R xs (suc j))) n
-  round_same xs ys j h len cells =
-      let at : (s : ℕ) → s < n → get_or ys s 0 ≡ table_rank n R xs (suc j) s = (λ s g. cells s 0 g ∙ sym (cell_inside xs j s h g)) in
-      ap (λ m. some_below (misplaced m (slice_index ys)) m) len
-      ∙ some_same _ _ n (λ s g. ap₂ ◌||◌ (ap (leb n) (at s g)) (some_same _ _ s (λ t lt. ap₂ eqb (at t (omega arith)) (at s g))))
+  -- a round of the table is judged by its own cells, or by ranks f that are the same
+  pub round_same : (xs : List ℕ) (f : ℕ → ℕ) (j : ℕ) → j < R → ((s : ℕ) → s < n → f s ≡ get_or xs (j * n + s) 0)
+      → some_below (misplaced n f) n ≡ some_below (misplaced n (table_rank n R xs (suc j))) n
+  round_same xs f j h cells =
+      let at : (s : ℕ) → s < n → f s ≡ table_rank n R xs (suc j) s = (λ s g. cells s g ∙ sym (cell_inside xs j s h g)) in
+      some_same _ _ n (λ s g. ap₂ ◌||◌ (ap (leb n) (at s g)) (some_same _ _ s (λ t lt. ap₂ eqb (at t (omega arith)) (at s g))))
 
   -- tables that agree in the first n times R places list the same ranks
   pub table_same : (xs ys : List ℕ) → ((i : ℕ) → i < n * R → get_or xs i 0 ≡ get_or ys i 0) → table_rank n R xs ≡ table_rank n R ys
@@ -63,16 +62,16 @@ module _ (n R : ℕ) where
       (cases_Bool (drawn n R k s))) in
       λ i k s. at k s i
 
-  -- the answer to a question inside the table
-  pub cell_answered : Bounds n R → (xs : List ℕ) (k s : ℕ) → drawn n R k s ≡ true → some_misplaced n R (table_rank n R xs) ≡ false →
-      only_if (leb 0 (get_or xs ((k - 1) * n + s) 0) && leb (get_or xs ((k - 1) * n + s) 0) 12) (get_or xs ((k - 1) * n + s) 0) ≡ answered n R (table_rank n R xs) k s
-  cell_answered sizes xs k s inside good =
+  -- the answer to a question inside the table, where the cell is tested as a rank, which is below 13
+  pub cell_answered : n ≤ 13 → (test : ℕ → Bool) → ((x : ℕ) → x < 13 → test x ≡ true) → (xs : List ℕ) (k s : ℕ) → drawn n R k s ≡ true → some_misplaced n R (table_rank n R xs) ≡ false →
+      only_if (test (get_or xs ((k - 1) * n + s) 0)) (get_or xs ((k - 1) * n + s) 0) ≡ answered n R (table_rank n R xs) k s
+  cell_answered few test passes xs k s inside good =
       let seat = and_parts (ltb s n) (leb 1 k && leb k R) inside in
       let round = and_parts (leb 1 k) (leb k R) seat.1 in
       let cell : table_rank n R xs k s ≡ get_or xs ((k - 1) * n + s) 0 = cond-true (drawn n R k s) (get_or xs ((k - 1) * n + s) 0) 0 inside in
       let low : table_rank n R xs k s < n = (once_at n R (table_rank n R xs) good k (leb-true 1 k round.0) (leb-true k R round.1)).below s (ltb-true s n seat.0) in
-      let small : get_or xs ((k - 1) * n + s) 0 ≤ 12 = omega (arith, sizes.few_seats) in
-      ap (λ b. only_if b (get_or xs ((k - 1) * n + s) 0)) (and_from _ _ (le-leb 0 _ (omega arith)) (le-leb _ 12 small)) ∙ ap (only_if true) (sym cell) ∙ sym (ap (λ b. only_if b (table_rank n R xs k s)) inside)
+      let small : get_or xs ((k - 1) * n + s) 0 < 13 = omega arith in
+      ap (λ b. only_if b (get_or xs ((k - 1) * n + s) 0)) (passes _ small) ∙ ap (only_if true) (sym cell) ∙ sym (ap (λ b. only_if b (table_rank n R xs k s)) inside)
 
   -- what is made of the ranks that a table begins with
   pub front_same : (xs ys : List ℕ) (m : ℕ) → m ≡ n * R → m ≤ length xs → ys ≡ slice_range xs 0 m → table_rank n R ys ≡ table_rank n R xs
@@ -111,7 +110,7 @@ module _ {S F : Type 0} {steps : S → Option (Bor (List ℕ)) → S → Type 0}
   answer judges j x b e called =
       let part = rw e at (rounds.2 j) in
       let low : j < R = lt_of_mul-lt-mul_right n (omega (arith, part.1, mul_comm n R)) in
-      (low, (judges x b f called).1 ∙ ap not (round_same n R xs x.now j low part.0 part.2.2))
+      (low, (judges x b f called).1 ∙ ap not (ap (λ m. some_below (misplaced m (slice_index x.now)) m) part.0 ∙ round_same n R xs (slice_index x.now) j low (λ s h. part.2.2 s 0 h)))
 
   pub all_judged : (r : Bool) → Bor (List ℕ) → MatchBool r (IsTrue p.whole × AllItemsGive p g f true) (AnyItemGives p g f false) → Judges g f
       → r ≡ not (some_misplaced n R (table_rank n R xs))

@@ -1,8 +1,8 @@
 //! A record in words.
+use basics::inline_list::InlineList;
 use records::refusal::Refusal;
 use records::totals::Counts;
 use seats::seat::Phase;
-use std::alloc::Global;
 use std::error::Error;
 use std::fmt;
 use std::str::from_utf8;
@@ -153,11 +153,11 @@ impl fmt::Display for Line<'_> {
     }
 }
 
-// the bytes of a line of hexadecimal
-fn bytes_of(alloc: Global, line: &str) -> anyhow::Result<Vec<u8>> {
-    let mut bytes = Vec::new(alloc);
+// the bytes of a line of hexadecimal; a line of a record has no more than 21
+fn bytes_of(line: &str) -> anyhow::Result<InlineList<u8, 24>> {
+    let mut bytes = InlineList::empty();
     for pair in line.as_bytes().chunks_exact(2) {
-        bytes.push(u8::from_str_radix(from_utf8(pair)?, 16)?)?;
+        bytes.push(u8::from_str_radix(from_utf8(pair)?, 16)?);
     }
     Ok(bytes)
 }
@@ -165,7 +165,7 @@ fn bytes_of(alloc: Global, line: &str) -> anyhow::Result<Vec<u8>> {
 /// Prints a record, line by line.
 pub fn print_record(rt: &HostRuntime, record: &str) -> anyhow::Result<()> {
     for line in record.lines() {
-        let frame = bytes_of(rt.alloc(), line)?;
+        let frame = bytes_of(line)?;
         let line = Line::try_from(frame.as_slice())?;
         println!(rt; "{line}")?;
     }

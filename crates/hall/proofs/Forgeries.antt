@@ -1,5 +1,5 @@
 -- A forgery: what refuses it before the hall's own rule decides, and that nothing does where its seat, round, parent and places are found.
-use Rattle.std.proofs.Common.{◌≡◌, ℕ, not, List, Some, None, Ok, Err, Option, arith}
+use Rattle.std.proofs.Common.{◌≡◌, ℕ, true, not, ◌&&◌, leb, List, Some, None, Ok, Err, Option, arith}
 use Rattle.std.specs.Option.{ok_or}
 use Rattle.model.specs.Setup.{Plan as Model}
 use Rattle.model.specs.Setup.{honest}
@@ -13,6 +13,10 @@ use Rattle.hall.specs.declared.fault.HallFault.{HallFault}
 use Rattle.hall.specs.declared.fault.HallFault.TheVariants.{OutOfRange}
 use Rattle.hall.specs.Faults.{fault_verdict}
 use Rattle.hall.specs.Answers.{seat_if, block_if, round_if}
+
+-- the plan has the round
+pub round_found : (p : Model) (k i : ℕ) → Ok i ≡ round_if p k → (i ≡ k) × ((leb 1 k && leb k p.rounds) ≡ true)
+round_found p k i e = (grind arith, grind arith)
 
 module _ (p : Model) (w : World) (s k par : ℕ) (xs : List ℕ) (i : ℕ) (seat : Ok i ≡ seat_if p (not (honest p s)) s) where
   pub no_round : (f : HallFault) → Err f ≡ round_if p k → fault_verdict s par f ≡ verdict p w (forge s k par xs)

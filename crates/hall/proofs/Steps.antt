@@ -3,6 +3,7 @@ use Rattle.std.proofs.Common.{◌≡◌, ℕ, Bool, true, false, cond, ltb, List
 use Rattle.std.proofs.lemmas.Result.{err_from_is_err_and}
 use Rattle.std.specs.Result.{IsErrAnd}
 use Rattle.std.proofs.lemmas.Bool.{cond-true, cond-false}
+use Rattle.std.proofs.lemmas.Bool.Decides.{nat_tests}
 use Rattle.model.specs.Setup.{Plan as Model}
 use Rattle.model.specs.World.{World, message}
 use Rattle.model.specs.World.{Message as Said}
@@ -32,7 +33,7 @@ pub seat_found : (p : Model) (ok : Bool) (s x i : ℕ) (rest : List Check) → O
     → (i ≡ s) × ((ltb s p.n ≡ true) × (first_failed (must (ltb s p.n) 8 3 s x ∷ must ok 9 3 s x ∷ rest) ≡ first_failed rest))
 seat_found p ok s x i rest e = (grind arith, (grind arith, grind arith))
 
-seat_missed : (p : Model) (ok : Bool) (s x : ℕ) (f : HallFault) (rest : List Check) → Err f ≡ seat_if p ok s
+pub seat_missed : (p : Model) (ok : Bool) (s x : ℕ) (f : HallFault) (rest : List Check) → Err f ≡ seat_if p ok s
     → fault_verdict s x f ≡ first_failed (must (ltb s p.n) 8 3 s x ∷ must ok 9 3 s x ∷ rest)
 seat_missed p ok s x f rest e = grind arith
 
@@ -40,13 +41,21 @@ pub block_found : (p : Model) (w : World) (s b i : ℕ) (rest : List Check) → 
     → (i ≡ b) × ((known p w b ≡ true) × (first_failed (must (known p w b) 10 3 s b ∷ rest) ≡ first_failed rest))
 block_found p w s b i rest e = (grind arith, (grind arith, grind arith))
 
-block_missed : (p : Model) (w : World) (s b : ℕ) (f : HallFault) (rest : List Check) → Err f ≡ block_if p w b
+pub block_missed : (p : Model) (w : World) (s b : ℕ) (f : HallFault) (rest : List Check) → Err f ≡ block_if p w b
     → fault_verdict s b f ≡ first_failed (must (known p w b) 10 3 s b ∷ rest)
 block_missed p w s b f rest e = grind arith
 
 pub message_found : (p : Model) (w : World) (s kind signer x : ℕ) (m : Said) (rest : List Check) → Ok m ≡ message_if p w kind signer x
     → (m ≡ message kind signer x) × ((in_range p w kind signer x ≡ true) × (first_failed (must (in_range p w kind signer x) 10 3 s x ∷ rest) ≡ first_failed rest))
 message_found p w s kind signer x m rest e = (grind arith, (grind arith, grind arith))
+
+pub message_missed : (p : Model) (w : World) (s kind signer x : ℕ) (f : HallFault) (rest : List Check) → Err f ≡ message_if p w kind signer x
+    → (in_range p w kind signer x ≡ false) × (fault_verdict s x f ≡ first_failed (must (in_range p w kind signer x) 10 3 s x ∷ rest))
+message_missed p w s kind signer x f rest e = (grind arith, grind arith)
+
+-- a message about an unknown block
+pub unknown_message : (p : Model) (w : World) (kind signer x : ℕ) (f : HallFault) → (kind ≡ 6 → ⊥) → Err f ≡ block_if p w x → Err f ≡ message_if p w kind signer x
+unknown_message p w kind signer x f ne e = grind (arith, nat_tests)
 
 -- What every call owes, from its verdict and the state after it.
 module _ {B : Type 0} (held : B → ℕ → ℕ → ℕ → Bool) (h : Hall B) (c : Call) where

@@ -1,5 +1,5 @@
 -- Lemmas on the pairs of digits that a text begins with: they are the first line if a line feed follows, and else that line says nothing.
-use Rattle.std.proofs.Common.{◌≡◌, ℕ, zero, suc, ◌+◌, ◌-◌, ◌*◌, ◌<◌, ◌≤◌, Bool, true, false, cond, not, ◌&&◌, ◌||◌, eqb, ltb, leb, ◌≢◌, List, [], ◌∷◌, ◌++◌, length, get_or, drop, Option, Some, None, is_some, unwrap_or, option_map, option_and_then, sym, refl, ap, ◌∙◌, append_assoc, append-nil, add-zero, add-one, arith, get_or-drop, drop-drop}
+use Rattle.std.proofs.Common.{◌≡◌, ℕ, zero, suc, ◌+◌, ◌*◌, ◌<◌, ◌≤◌, Bool, true, false, cond, not, ◌&&◌, ◌||◌, eqb, ltb, leb, ◌≢◌, List, [], ◌∷◌, ◌++◌, length, get_or, drop, Option, Some, None, is_some, unwrap_or, option_map, option_and_then, sym, refl, ap, ◌∙◌, append_assoc, append-nil, add-zero, add-one, arith, get_or-drop, drop-drop}
 use Rattle.std.proofs.lemmas.Bool.Decides.{nat_tests}
 use Rattle.std.proofs.lemmas.Bool.{le-leb, lt-ltb}
 use Rattle.lines.specs.Lines.{digit, pair, paired, bytes, line_bytes, lines, later, leading_bytes}

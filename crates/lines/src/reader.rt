@@ -20,16 +20,19 @@ fn read_pairs(text: &[u8]) -> (InlineList<u8, 16>, &[u8])
     ensures bytes { elements result.0 ≡ leading_bytes 16 text.now }
     ensures behind { result.1.now ≡ drop (2 * length (leading_bytes 16 text.now)) text.now }
 {
-    let mut bytes = InlineList::empty();
+    // (an array and a count, and no list until the end: the count then stays in a register)
+    let mut slots = [0; 16];
+    let mut count = 0;
     let mut behind = text;
-    while bytes.len() < 16
+    while count < 16
         && let [x, y, rest @ ..] = behind
         && let Some(byte) = pair(*x, *y)
     {
-        bytes.push(byte);
+        slots[count] = byte;
+        count += 1;
         behind = rest;
     }
-    (bytes, behind)
+    (InlineList::from_array(slots, count), behind)
 }
 
 /// The place of the first line feed, if there is one.

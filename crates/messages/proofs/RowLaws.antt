@@ -4,9 +4,9 @@ use Rattle.std.proofs.lemmas.Bool.Decides.{nat_tests}
 use Rattle.std.proofs.lemmas.Grind.{get_or-set_at}
 use Rattle.std.proofs.lemmas.Bool.{and_right}
 use Rattle.basics.specs.Bit.{bit}
-use Rattle.basics.specs.Put.{put, put_below}
+use Rattle.basics.specs.Put.{put}
 use Rattle.basics.specs.Count.{tally}
-use Rattle.basics.proofs.BitLaws.{bit_none, put_inside}
+use Rattle.basics.proofs.BitLaws.{bit_none}
 use Rattle.basics.proofs.CountLaws.{tally_same}
 use Rattle.model.specs.World.{message}
 use Rattle.model.specs.World.{Message as Said}
@@ -41,12 +41,12 @@ at_row : (ms : List ℕ) (r s v r' s' : ℕ) → r < length ms → bit v ≡ put
     → bit (get_or (set ms r v) r' 0) s' ≡ ((eqb r r' && eqb s s') || bit (get_or ms r' 0) s')
 at_row ms r s v r' s' h more = let m : bit v s' ≡ put s true (bit (get_or ms r 0)) s' = ap (λ f. f s') more in grind (arith, nat_tests, get_or-set_at, get_or-set_other)
 
+-- a message joins the set where its bit, s in row r, is set
 pub row_joined : (ms : List ℕ) (m : Said) (r s v : ℕ) → 1574 ≤ length ms → r < 1574 → subject_fits m.kind m.subject ≡ true
-    → r ≡ row m.kind m.subject → s ≡ m.signer → s < 13 → bit v ≡ put_below 16 s true (bit (get_or ms r 0))
+    → r ≡ row m.kind m.subject → s ≡ m.signer → bit v ≡ put s true (bit (get_or ms r 0))
     → in_rows (set ms r v) ≡ joined m (in_rows ms)
 unfolding in_rows
-row_joined ms m r s v long low ok at by few more =
-    let here : bit v ≡ put s true (bit (get_or ms r 0)) = more ∙ put_inside 16 s true (bit (get_or ms r 0)) (omega arith) in
+row_joined ms m r s v long low ok at by here =
     let each : (x : Said) → in_rows (set ms r v) x ≡ joined m (in_rows ms) x =
     (λ x.
     let a = at_row ms r s v (row x.kind x.subject) x.signer (omega arith) here in
@@ -54,9 +54,12 @@ row_joined ms m r s v long low ok at by few more =
     grind (arith, nat_tests)) in
     λ i x. each x i
 
-pub row_count : (ms : List ℕ) (k b n : ℕ) → subject_fits k b ≡ true → tally (bit (get_or ms (row k b) 0)) n ≡ tally (λ s. in_rows ms (message k s b)) n
+pub in_row : (ms : List ℕ) (k s b : ℕ) → subject_fits k b ≡ true → bit (get_or ms (row k b) 0) s ≡ in_rows ms (message k s b)
 unfolding in_rows
-row_count ms k b n ok = tally_same _ _ n (λ s small. sym (ap (λ p. p && bit (get_or ms (row k b) 0) s) ok))
+in_row ms k s b ok = sym (ap (λ p. p && bit (get_or ms (row k b) 0) s) ok)
+
+pub row_count : (ms : List ℕ) (k b n : ℕ) → subject_fits k b ≡ true → tally (bit (get_or ms (row k b) 0)) n ≡ tally (λ s. in_rows ms (message k s b)) n
+row_count ms k b n ok = tally_same _ _ n (λ s small. in_row ms k s b ok)
 
 pub none_in_rows : (ms : List ℕ) → ((r : ℕ) → get_or ms r 0 ≡ 0) → in_rows ms ≡ nothing
 unfolding in_rows

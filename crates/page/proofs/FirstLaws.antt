@@ -14,7 +14,7 @@ use Rattle.page.specs.First.{marked_answer, marked, unless_refused, named, then_
 use Rattle.page.specs.Ranks.{with_ranks, with_table, meant, by_draw, table_plan}
 
 module _ (corrupt s : ℕ) (p : Model) where
-  seat_step : s < 16 → named corrupt (16 - s) s p ≡ unless_refused (marked_answer corrupt s p) (named corrupt (16 - (s + 1)) (s + 1) (marked corrupt s p))
+  pub seat_step : s < 16 → named corrupt (16 - s) s p ≡ unless_refused (marked_answer corrupt s p) (named corrupt (16 - (s + 1)) (s + 1) (marked corrupt s p))
   unfolding named
   seat_step h = let e : 16 - s ≡ suc (16 - (s + 1)) = omega arith in ap (λ k. named corrupt k s p) e
 

@@ -60,11 +60,11 @@ module _ (p : Model) (n left done : ℕ) (table : List ℕ) (fr : List (Option F
         rows_here ∙ ap (λ b. cond b (by_rank (some_misplaced p.n (done + 1) (table_rank p.n (done + 1) (table ++ xs)))) (ended_at (done + 2) Malformed)) z
 
     -- judged as a draw of the rounds so far
-    abbrev by_draw_so_far : Result Meaning DrawFault → List ℕ
+    abbrev pub by_draw_so_far : Result Meaning DrawFault → List ℕ
     by_draw_so_far (Ok _) = rows p left (done + 1) (table ++ xs) more
     by_draw_so_far (Err f) = ended_at (done + 2) (Plan (Draw f))
 
-    row_judged : length xs ≡ p.n → in_bounds p.n (done + 1) ≡ true → p.n * (done + 1) ≤ length (table ++ xs)
+    pub row_judged : length xs ≡ p.n → in_bounds p.n (done + 1) ≡ true → p.n * (done + 1) ≤ length (table ++ xs)
         → all ≡ by_draw_so_far (table_made p.n (done + 1) (table ++ xs))
     row_judged h b l =
         let z : eqb (length xs) p.n ≡ true = grind (arith, nat_tests) in

@@ -1,5 +1,5 @@
 -- Lemmas on the record: its seats one by one, and how long it is.
-use Rattle.std.proofs.Common.{◌≡◌, ℕ, ◌+◌, ◌*◌, ◌<◌, ◌≤◌, Bool, true, false, cond, not, ◌&&◌, ltb, List, [], ◌∷◌, ◌++◌, map, length, sym, refl, ap, ◌∙◌, subst, append-nil, add-one, arith, length-append}
+use Rattle.std.proofs.Common.{◌≡◌, ℕ, ◌+◌, ◌*◌, ◌<◌, ◌≤◌, Bool, true, false, cond, not, ◌&&◌, ltb, List, [], ◌∷◌, ◌++◌, map, length, sym, refl, ap, ◌∙◌, subst, append-nil, add-one, arith, length-append, length-take, take}
 use Rattle.std.proofs.lemmas.Bool.{le-leb, lt-ltb}
 use Rattle.model.specs.Setup.{Plan, honest}
 use Rattle.model.specs.World.{World, Seat}
@@ -16,18 +16,21 @@ use Rattle.records.proofs.FrameLaws.{length_wides, length_refusals}
 use Rattle.page.specs.Record.{state, seat_frame, seat_frames, record_frames, recorded}
 use Rattle.page.specs.Shape.{Reported}
 
--- the frame of a report is that of the seat that it reports
+-- the frame of a report is the frame of the seat that it reports
+pub reported_frame : (s : ℕ) (r : SeatReport) (x : Seat) → Reported r x → report_frame s r ≡ seat_frame s x
+reported_frame s r x h =
+    ap (λ u. 224 ∷ s ∷ u ∷ r.round ∷ r.k_max ∷ wides (take r.count r.catalogue)) h.state_is
+    ∙ ap (λ u. 224 ∷ s ∷ state x.phase ∷ u ∷ r.k_max ∷ wides (take r.count r.catalogue)) h.round_is
+    ∙ ap (λ u. 224 ∷ s ∷ state x.phase ∷ x.round ∷ u ∷ wides (take r.count r.catalogue)) h.k_max_is
+    ∙ ap (λ u. 224 ∷ s ∷ state x.phase ∷ x.round ∷ x.k_max ∷ wides u) h.blocks_are
+
+-- and the only one that it puts
 pub reported_frames : (s : ℕ) (r : SeatReport) (x : Seat) → Reported r x → report_frames s r ≡ seat_frame s x ∷ []
-reported_frames s r x h =
-    ap (λ b. cond b (report_frame s r ∷ []) []) (le-leb (length r.catalogue.now) 8 h.few)
-    ∙ ap (λ u. (224 ∷ s ∷ u ∷ r.round ∷ r.k_max ∷ wides r.catalogue.now) ∷ []) h.state_is
-    ∙ ap (λ u. (224 ∷ s ∷ state x.phase ∷ u ∷ r.k_max ∷ wides r.catalogue.now) ∷ []) h.round_is
-    ∙ ap (λ u. (224 ∷ s ∷ state x.phase ∷ x.round ∷ u ∷ wides r.catalogue.now) ∷ []) h.k_max_is
-    ∙ ap (λ u. (224 ∷ s ∷ state x.phase ∷ x.round ∷ x.k_max ∷ wides u) ∷ []) h.blocks_are
+reported_frames s r x h = ap (λ b. cond b (report_frame s r ∷ []) []) (le-leb r.count 8 h.few) ∙ ap (λ l. l ∷ []) (reported_frame s r x h)
 
 -- at most 43 characters to a seat
 pub length_seat : (s : ℕ) (r : SeatReport) (x : Seat) → Reported r x → length (line (seat_frame s x)) ≤ 43
-length_seat s r x h = omega (arith, length_line (seat_frame s x), length_wides x.catalogue, ap length h.blocks_are, h.few)
+length_seat s r x h = omega (arith, length_line (seat_frame s x), length_wides x.catalogue, ap length h.blocks_are, length-take r.count r.catalogue, h.few)
 
 -- whether a seat has a line
 abbrev pub has_line : Plan → ℕ → Bool

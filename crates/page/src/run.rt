@@ -71,6 +71,8 @@ pub(crate) fn run_calls<B: SealBook>(
     };
     let mut at_hand = first;
     while let Some(line) = at_hand {
+        // read ahead, so that the call need not wait for the bytes that were just stored
+        at_hand = reader.next();
         take_line(
             hall,
             decode(line.bytes()),
@@ -78,7 +80,6 @@ pub(crate) fn run_calls<B: SealBook>(
             refusals,
             &mut counts,
         );
-        at_hand = reader.next();
     }
     counts
 }

@@ -32,15 +32,19 @@ fn state_of(phase: Phase) -> u8
 }
 
 /// The report of how a seat stands.
-fn report(standing: Standing<'_>) -> SeatReport<'_>
-    requires { length standing.catalogue.now ≤ 8 }
-    ensures { (x : Seat) → Stands standing.entry x → Reported result x }
+fn report(standing: &Standing) -> SeatReport
+    ensures { (x : Seat) → Stands standing.now x → Reported result x }
 {
+    let blocks = standing.catalogue.as_slice();
+    let count = blocks.len();
+    let mut catalogue = [0; 8];
+    catalogue[..count].copy_from_slice(blocks);
     SeatReport {
         state: state_of(standing.phase),
         round: standing.round.value(),
-        k_max: standing.catalogue.len() as u8,
-        catalogue: standing.catalogue,
+        k_max: count as u8,
+        catalogue,
+        count,
     }
 }
 
@@ -51,7 +55,7 @@ fn put_seats<B: SealBook>(writer: &mut LineWriter, hall: &Hall<B>)
 {
     for seat in 0..hall.seat_count() {
         if let Some(standing) = hall.standing(seat) {
-            put_seat(writer, seat, report(standing));
+            put_seat(writer, seat, report(&standing));
         }
     }
 }

@@ -2,21 +2,21 @@
 use Rattle.std.proofs.Common.{◌≡◌, ℕ, ◌+◌, ◌-◌, ◌*◌, ◌/◌, ◌%◌, ◌<◌, ◌≤◌, Bool, true, false, cond, ◌&&◌, ltb, leb, List, get_or, sym, ap, ◌∙◌, subst, ap₂, ⊎_elim, arith}
 use lib.Arith.{digits_div, digits_mod}
 use Rattle.std.proofs.lemmas.Bool.{cases_Bool, cond-true, cond-false, and_parts, ltb-true, leb-true, lt-ltb}
-use Rattle.draws.specs.Ranks.{Bounds, drawn, Once}
+use Rattle.draws.specs.Ranks.{drawn, Once}
 use Rattle.plans.specs.Tables.{rank_in, RanksBelow, RanksApart}
 use Rattle.plans.specs.Setup.{drawn_rank}
 
-module _ (n R : ℕ) (rank : ℕ → ℕ → ℕ) (ranks : List ℕ) (sizes : Bounds n R)
+module _ (n R : ℕ) (rank : ℕ → ℕ → ℕ) (ranks : List ℕ) (few : n ≤ 13) (short : R ≤ 8)
     (filled : (i : ℕ) → i < 104 → get_or ranks i 0 ≡ cond (drawn n R (i / 13 + 1) (i % 13)) (rank (i / 13 + 1) (i % 13)) 0) where
   read : (k s : ℕ) → drawn n R k s ≡ true → get_or ranks ((k - 1) * 13 + s) 0 ≡ rank k s
   read k s h =
       let p = and_parts (ltb s n) (leb 1 k && leb k R) h in
       let q = and_parts (leb 1 k) (leb k R) p.1 in
-      let low : s < 13 = omega (arith, ltb-true s n p.0, sizes.few_seats) in
+      let low : s < 13 = omega (arith, ltb-true s n p.0) in
       let first = leb-true 1 k q.0 in
       let last = leb-true k R q.1 in
       let i : ℕ = (k - 1) * 13 + s in
-      let in_table : i < 104 = omega (arith, sizes.few_rounds) in
+      let in_table : i < 104 = omega arith in
       let round : i / 13 + 1 ≡ k = ap (λ (x : ℕ). x + 1) (digits_div (k - 1) low) ∙ omega arith in
       let seat : i % 13 ≡ s = digits_mod (k - 1) low in
       filled i in_table ∙ ap₂ (λ a b. cond (drawn n R a b) (rank a b) 0) round seat ∙ cond-true (drawn n R k s) (rank k s) 0 h

@@ -1,14 +1,23 @@
 -- The likeness that a table of entries and its rows of bits say.
-use Rattle.std.proofs.Common.{◌≡◌, ℕ, zero, suc, ◌+◌, ◌<◌, ◌≤◌, Bool, true, ◌&&◌, ltb, List, [], ◌∷◌, length, get_or, Some, sym, refl, ap, ◌∙◌, ap₂, ⊎_elim, arith}
+use Rattle.std.proofs.Common.{◌≡◌, ℕ, zero, suc, ◌+◌, ◌<◌, ◌≤◌, Bool, true, ◌&&◌, ltb, List, [], ◌∷◌, length, get_or, Some, None, sym, refl, ap, ◌∙◌, ap₂, ⊎_elim, arith}
 use Rattle.std.proofs.lemmas.Bool.{cases_eq, cases_lt, lt-ltb, le-ltb}
 use Rattle.plans.specs.Tables.{like_in, LikeSelf, LikeBack}
 use Rattle.std.specs.List.{slice_get}
 use Rattle.std.proofs.lemmas.Option.{slice_get_read}
 use Rattle.plans.specs.Setup.{both_alike, places_alike}
 
+-- what stands at a place of the list
+pub entry_there : {E : Type 0} (xs : List E) (i : ℕ) (r : E) → i < length xs → r ≡ get_or xs i r → slice_get xs i ≡ Some r
+entry_there xs i r h e = slice_get_read xs (length xs) i r refl h e
+
+pub entry_past : {E : Type 0} (xs : List E) (i : ℕ) → length xs ≤ i → slice_get xs i ≡ None
+entry_past [] i h = refl
+entry_past (x ∷ xs) zero h = absurd (omega arith)
+entry_past (x ∷ xs) (suc i) h = entry_past xs i (omega arith)
+
 -- an entry and one at a place of the list
 pub alike_there : {E : Type 0} (alike : E → E → Bool) (xs : List E) (a b : E) (j : ℕ) → j < length xs → b ≡ get_or xs j b → both_alike alike (Some a) (slice_get xs j) ≡ alike a b
-alike_there alike xs a b j h e = ap (both_alike alike (Some a)) (slice_get_read xs (length xs) j b refl h e)
+alike_there alike xs a b j h e = ap (both_alike alike (Some a)) (entry_there xs j b h e)
 
 -- a row of bits, with the place j looked at
 pub row_next : (m after P : ℕ → Bool) (j : ℕ) → ((k : ℕ) → m k ≡ (ltb k j && P k)) → after j ≡ P j → ((k : ℕ) → (j ≡ k → ⊥) → after k ≡ m k)

@@ -1,5 +1,5 @@
 -- The frames that a record is made of.
-use Rattle.std.specs.Prelude.{ℕ, cond, List, [], ◌∷◌, length, nat_le}
+use Rattle.std.specs.Prelude.{ℕ, cond, List, [], ◌∷◌, take, nat_le}
 use Rattle.lines.specs.Output.{wide}
 use Rattle.records.specs.declared.refusal.Refusal.{Refusal}
 use Rattle.records.specs.declared.totals.Counts.{Counts}
@@ -20,8 +20,8 @@ wides (b ∷ bs) = wide b (wides bs)
 
 -- e0 seat state round k_max and blocks(2 each)
 abbrev pub report_frame : ℕ → SeatReport → List ℕ
-report_frame seat r = 224 ∷ seat ∷ r.state ∷ r.round ∷ r.k_max ∷ wides r.catalogue.now
+report_frame seat r = 224 ∷ seat ∷ r.state ∷ r.round ∷ r.k_max ∷ wides (take r.count r.catalogue)
 
 -- the frame of a report of at most eight blocks; none of any other
 abbrev pub report_frames : ℕ → SeatReport → List (List ℕ)
-report_frames seat r = cond (nat_le (length r.catalogue.now) 8) (report_frame seat r ∷ []) []
+report_frames seat r = cond (nat_le r.count 8) (report_frame seat r ∷ []) []

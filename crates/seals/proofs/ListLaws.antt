@@ -13,7 +13,7 @@ use Rattle.seals.proofs.AddedLaws.{same_seal}
 use Rattle.seals.proofs.RoomLaws.{can, can_parts, sound_parts}
 
 -- one seal more at the end
-listed_push : (xs : List SealRecord) (z : SealRecord) (k s b : ℕ) → listed (xs ++ z ∷ []) k s b ≡ (listed xs k s b || is z k s b)
+pub listed_push : (xs : List SealRecord) (z : SealRecord) (k s b : ℕ) → listed (xs ++ z ∷ []) k s b ≡ (listed xs k s b || is z k s b)
 listed_push xs z k s b = list_any-append (λ x. is x k s b) xs (z ∷ []) ∙ ap (λ y. listed xs k s b || y) (off (is z k s b))
   where
     off : (a : Bool) → (a || false) ≡ a
@@ -47,6 +47,13 @@ holds_more x xs k s b ok = joins (allowed k s b) (can x) (is x k s b) (listed xs
   where
     joins : (q p w y : Bool) → p ≡ true → (w ≡ true → p ≡ q) → (q && (w || y)) ≡ (w || (q && y))
     joins q p w y ok same = grind arith
+
+-- in a sound list there are only seals that there can be
+pub listed_allowed : (xs : List SealRecord) (k s b : ℕ) → sound xs ≡ true → listed xs k s b ≡ list_holds xs k s b
+listed_allowed [] k s b h = sym (and_right (allowed k s b) false refl)
+listed_allowed (x ∷ xs) k s b h =
+    let p = sound_parts x xs h in
+    ap (λ y. is x k s b || y) (listed_allowed xs k s b p.2) ∙ sym (holds_more x xs k s b p.0)
 
 -- The records of one kind and subject are as many as the seats that have sealed it.
 -- (the bound is a variable here, since a count up to a numeral would be written out)

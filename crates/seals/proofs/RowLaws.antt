@@ -1,9 +1,8 @@
 -- The rows of a row book: which seal stands where, and what one bit more adds.
-use Rattle.std.proofs.Common.{◌≡◌, ℕ, ◌<◌, ◌≤◌, Bool, true, false, ◌&&◌, ◌||◌, eqb, ltb, List, ◌++◌, length, get_or, set, replicate, sym, ap, ◌∙◌, ap₂, arith, get_or-set_other}
+use Rattle.std.proofs.Common.{◌≡◌, ℕ, ◌<◌, ◌≤◌, Bool, true, false, ◌&&◌, ◌||◌, eqb, ltb, List, length, get_or, set, sym, ap, ◌∙◌, ap₂, arith, get_or-set_other}
 use Rattle.std.proofs.lemmas.Bool.Decides.{nat_tests}
 use Rattle.std.proofs.lemmas.Bool.{and_from, lt-ltb}
 use Rattle.std.proofs.lemmas.Grind.{get_or-set_at}
-use Rattle.std.proofs.lemmas.List.{get_or-replicate, get_or_append_left, length-replicate}
 use Rattle.basics.specs.Bit.{bit}
 use Rattle.basics.specs.Put.{put, put_below}
 use Rattle.basics.proofs.BitLaws.{bit_none, put_inside}
@@ -52,13 +51,13 @@ row_sealed ms k s b r v long at h small more =
     ∙ ap (λ x. (x && (eqb k' k && (eqb s' s && eqb b' b))) || row_holds ms k' s' b') (sym ok)) in
     λ i k' s' b'. each k' s' b' i
 
--- the rows empty, and whatever stands past them
-pub row_cleared : (n : ℕ) (xs : List ℕ) → 632 ≤ n → row_holds (replicate n 0 ++ xs) ≡ none
-row_cleared n xs h =
-    let each : (k s b : ℕ) → row_holds (replicate n 0 ++ xs) k s b ≡ false =
+-- all rows empty
+pub row_cleared : (ms : List ℕ) → ((i : ℕ) → i < 632 → get_or ms i 0 ≡ 0) → row_holds ms ≡ none
+row_cleared ms h =
+    let each : (k s b : ℕ) → row_holds ms k s b ≡ false =
     (λ k s b.
     let ok = allowed_row k s b in
+    let clear = h (row_at k b) in
     let empty = bit_none s in
-    let long = length-replicate {A = ℕ} n 0 in
-    grind (arith, nat_tests, get_or-replicate, get_or_append_left)) in
+    grind (arith, nat_tests)) in
     λ i k s b. each k s b i

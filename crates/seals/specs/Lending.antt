@@ -13,3 +13,13 @@ seal_fault_number Short = 4
 abbrev pub MakesBook : {T Book : Type 0} → ℕ → MutBor (List T) → (Book → Type 0) → Result Book (ShortBuffer T) → Type 0
 MakesBook needed buffer P (Ok book) = (needed ≤ length buffer.now) × P book
 MakesBook needed buffer P (Err short) = (length buffer.now < needed) × (short.buffer.ghost_name ≡ buffer.ghost_name) × (short.buffer.now ≡ buffer.now)
+
+-- a buffer of this length that is shorter than needed is refused; with any other the answer is as it may be
+abbrev pub Lent : {A : Type 0} → ℕ → ℕ → (A → Type 0) → Result A SealFault → Type 0
+Lent needed len May (Ok a) = (needed ≤ len) × May a
+Lent needed len May (Err f) = (len < needed) × (f ≡ Short)
+
+-- the buffer was refused
+abbrev pub Refused : {A : Type 0} → Result A SealFault → Type 0
+Refused (Ok a) = ⊥
+Refused (Err f) = Unit {0}

@@ -32,3 +32,16 @@ pub trait SealBook: SealView {
         ensures answer { result ≡ (allowed kind seat subject && not (Self.SealView.held self.old kind seat subject)) }
         ensures after { Self.SealView.held self.new ≡ added kind seat subject (Self.SealView.held self.old) };
 }
+
+/// Someone who works with a book, whichever it is.
+// (A buffer that comes back in an error is not tied to the caller's again; so a book is lent, and what a refused buffer holds is promised.)
+pub trait BookUser {
+    type Answer;
+
+    /// Which answers there may be, with any book.
+    ghost answers: { Self → Self.Answer → Type 0 };
+
+    /// Does the work with the book, and answers.
+    fn run<B: SealBook + Drop>(self, book: B) -> Self::Answer
+        ensures { answers self result };
+}

@@ -1,12 +1,12 @@
 //! The seal book that lists its seals, oldest first.
-ghost use Rattle.std.specs.Prelude.{◌≡◌, ◌≤◌, true, not, ◌==◌, ◌&&◌, [], ◌∷◌, ◌++◌, count_by, if◌then◌else◌};
+ghost use Rattle.std.specs.Prelude.{◌≡◌, ◌≤◌, true, not, ◌==◌, ◌&&◌, [], ◌∷◌, ◌++◌, count_by, length, if◌then◌else◌};
 ghost use Rattle.basics.specs.Contents.{contents, room};
-ghost use Rattle.seals.specs.Lending.{MakesBook};
+ghost use Rattle.seals.specs.Lending.{Lent, MakesBook, Refused};
 ghost use Rattle.seals.specs.Listed.{listed, list_holds, list_inside, sound};
 ghost use Rattle.seals.specs.Seals.{allowed, added};
 
-use crate::book::{SealBook, SealView};
-use crate::fault::ShortBuffer;
+use crate::book::{BookUser, SealBook, SealView};
+use crate::fault::{SealFault, ShortBuffer};
 use crate::record::SealRecord;
 use basics::list::BoundedList;
 
@@ -26,6 +26,22 @@ impl<'a> ListedBook<'a> {
         let list = BoundedList::new(records);
         ListedBook { records: list }
     }
+
+    /// Hands an empty book over the buffer to its user; room for fewer than 8,216 is refused, and left as it is.
+    pub fn lend<U: BookUser + Drop>(
+        records: &mut [SealRecord],
+        user: U,
+    ) -> Result<U::Answer, SealFault>
+        ensures refusal { Refused result → records.new ≡ records.old }
+        ensures answer { Lent 8216 (length records.old) (U.BookUser.answers user) result }
+    {
+        if records.len() < 8216 {
+            return Err(SealFault::Short);
+        }
+        Ok(user.run(ListedBook {
+            records: BoundedList::new(records),
+        }))
+    }
 }
 
 impl<'a> TryFrom<&'a mut [SealRecord]> for ListedBook<'a> {
@@ -37,21 +53,22 @@ impl<'a> TryFrom<&'a mut [SealRecord]> for ListedBook<'a> {
     fn try_from(
         records: &'a mut [SealRecord],
     ) -> Result<ListedBook<'a>, ShortBuffer<'a, SealRecord>> {
-        if records.len() < 8216 {
-            return Err(ShortBuffer { buffer: records });
+        if records.len() >= 8216 {
+            return Ok(ListedBook {
+                records: BoundedList::new(records),
+            });
         }
-        Ok(ListedBook {
-            records: BoundedList::new(records),
-        })
+        Err(ShortBuffer { buffer: records })
     }
 }
 
 /// Whether the list has the record.
-// (`contains` compares a group of records at a time: with it, a call of the slip hall took some 100 instructions more)
 fn lists(records: &[SealRecord], wanted: SealRecord) -> bool
     ensures { result ≡ listed records.now wanted.kind wanted.seat wanted.subject }
 {
-    records.iter().any(|x| *x == wanted)
+    records
+        .iter()
+        .any(|x| x.is_of(wanted.kind, wanted.seat, wanted.subject))
 }
 
 /// How many records of the list have the kind and the subject.

@@ -1,10 +1,10 @@
 //! The seal book of 632 masks: kind 2 by block, then kind 4 by block, then kind 6 by round; bit s is seat s.
 ghost use Rattle.std.specs.Prelude.{◌≡◌, ◌≤◌, ◌<◌, MatchOption, length};
-ghost use Rattle.seals.specs.Lending.{MakesBook};
+ghost use Rattle.seals.specs.Lending.{Lent, MakesBook, Refused};
 ghost use Rattle.seals.specs.Rows.{row_at, row_holds, row_inside};
 
-use crate::book::{SealBook, SealView};
-use crate::fault::ShortBuffer;
+use crate::book::{BookUser, SealBook, SealView};
+use crate::fault::{SealFault, ShortBuffer};
 use basics::mask::{self, Mask};
 
 /// How many masks a book has.
@@ -37,6 +37,17 @@ impl<'a> RowBook<'a> {
     {
         RowBook { masks }
     }
+
+    /// Hands the book that the masks stand for to its user; fewer than 632 are refused, and left as they are.
+    pub fn lend<U: BookUser + Drop>(masks: &mut [u16], user: U) -> Result<U::Answer, SealFault>
+        ensures refusal { Refused result → masks.new ≡ masks.old }
+        ensures answer { Lent 632 (length masks.old) (U.BookUser.answers user) result }
+    {
+        if masks.len() < ROWS {
+            return Err(SealFault::Short);
+        }
+        Ok(user.run(RowBook { masks }))
+    }
 }
 
 impl<'a> TryFrom<&'a mut [u16]> for RowBook<'a> {
@@ -46,10 +57,10 @@ impl<'a> TryFrom<&'a mut [u16]> for RowBook<'a> {
 
     /// The book that the masks stand for; fewer than 632 are handed back as they are.
     fn try_from(masks: &'a mut [u16]) -> Result<RowBook<'a>, ShortBuffer<'a, u16>> {
-        if masks.len() < ROWS {
-            return Err(ShortBuffer { buffer: masks });
+        if masks.len() >= ROWS {
+            return Ok(RowBook { masks });
         }
-        Ok(RowBook { masks })
+        Err(ShortBuffer { buffer: masks })
     }
 }
 

@@ -7,7 +7,7 @@ use native.Mathlib.Decide.{dec_lt}
 use Rattle.basics.specs.Count.{some_below, first_below}
 use Rattle.basics.specs.Numbers.{only_if, block_value}
 use Rattle.basics.specs.declared.numbers.BlockNumber.{BlockNumber}
-use Rattle.model.specs.Setup.{Lawful, round_of, rank_of, number, holder, in_order}
+use Rattle.model.specs.Setup.{Lawful, round_of, number, holder, in_order}
 use Rattle.model.specs.Setup.{Plan as Model}
 use Rattle.model.proofs.Numbering.{number_out}
 use Rattle.model.proofs.Searches.{find, first_at, first_found, first_none, none_below, no_below}
@@ -91,7 +91,7 @@ module _ (p : Model) (t : Tree) (x : Seat) (r : ℕ) where
   abbrev pub better_nth : ℕ → Bool
   better_nth j = better_in p t x r (in_order p x.progress.round.value j)
 
-  nth : (q v : ℕ) → v < 3 → in_order p x.progress.round.value (3 * q + v) ≡ block_of_rank p x q v
+  pub nth : (q v : ℕ) → v < 3 → in_order p x.progress.round.value (3 * q + v) ≡ block_of_rank p x q v
   nth q v h =
       let a : (3 * q + v) / 3 ≡ q = omega arith in
       let b : (3 * q + v) % 3 ≡ min v 2 = omega arith in

@@ -26,10 +26,10 @@ pub enum Phase {
 /// How a seat stands: its phase, its round, and the committed blocks, lowest round first, of which there are as many as the highest
 /// committed round says.
 #[derive(Clone, Copy, Debug, PartialEq, Eq)]
-pub struct Standing<'a> {
+pub struct Standing {
     pub phase: Phase,
     pub round: Round,
-    pub catalogue: &'a [u16],
+    pub catalogue: InlineList<u16, 8>,
 }
 
 /// A seat: how far it has come, and its pool. Calls move the first, and what arrives or is posted comes into the second.

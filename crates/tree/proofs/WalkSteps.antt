@@ -28,7 +28,7 @@ places_by-append : (ps : ℕ → List ℕ) (xs ys : List ℕ) → places_by ps (
 places_by-append ps [] ys = refl
 places_by-append ps (x ∷ xs) ys = ap (λ l. ps x ++ l) (places_by-append ps xs ys) ∙ sym (append_assoc (ps x) (places_by ps xs) (places_by ps ys))
 
-unlike_all-append : (p : Model) (x : ℕ) (xs ys : List ℕ) → unlike_all p x (xs ++ ys) ≡ (unlike_all p x xs && unlike_all p x ys)
+pub unlike_all-append : (p : Model) (x : ℕ) (xs ys : List ℕ) → unlike_all p x (xs ++ ys) ≡ (unlike_all p x xs && unlike_all p x ys)
 unlike_all-append p x [] ys = refl
 unlike_all-append p x (z ∷ xs) ys = ap (λ b. not (p.like x z) && b) (unlike_all-append p x xs ys) ∙ sym (and_assoc (not (p.like x z)) (unlike_all p x xs) (unlike_all p x ys))
 

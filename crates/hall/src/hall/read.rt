@@ -20,7 +20,7 @@ impl<B: SealBook> Hall<B> {
     }
 
     /// How an honest seat stands; of any other there is nothing to say.
-    pub fn standing(&self, seat: u8) -> Option<Standing<'_>>
+    pub fn standing(&self, seat: u8) -> Option<Standing>
         ensures { MatchOption result
             ((nat_lt seat (model self.now.plan).n && honest (model self.now.plan) seat) ≡ false)
             (λ x. ((nat_lt seat (model self.now.plan).n && honest (model self.now.plan) seat) ≡ true) × Stands x ((world B.SealView.held self.now).seat seat)) }

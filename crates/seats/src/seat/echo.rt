@@ -81,7 +81,7 @@ impl Seat {
         if self.progress.elapsed() < at.plan.ntry_delay(rank) {
             return Err(SeatFault::TooSoon);
         }
-        match self.best(at, rank) {
+        match self.best(at.plan, at.tree, rank) {
             Some(better) => Err(SeatFault::Better(better)),
             None => Ok(()),
         }

@@ -7,42 +7,40 @@ ghost use Rattle.seats.specs.Seated.{pooled};
 ghost use Rattle.seats.specs.Searches.{better_in, best_in_rank, best_in, rank_noted, other_noted, quorum_in};
 
 use super::Seat;
-use crate::context::Context;
 use basics::mask::Mask;
 use basics::numbers::{BlockNumber, Rank};
 use messages::message::{Message, Share};
 use plans::plan::Plan;
+use tree::tree::Tree;
 
 impl Seat {
     // whether c is a valid block of the seat's round whose rank is below the given one and not disqualified
     #[tactic(auto, unfolding(crate::specs::Searches::better_in, tree::specs::Blocks::valid_in))]
-    fn is_better(&self, at: Context<'_>, rank: Rank, c: BlockNumber) -> bool
-        ensures { result ≡ better_in (model at.entry.plan.now) at.entry.tree.now self.now rank.value c.value }
+    fn is_better(&self, plan: &Plan, tree: &Tree, rank: Rank, c: BlockNumber) -> bool
+        ensures { result ≡ better_in (model plan.now) tree.now self.now rank.value c.value }
     {
-        if at.plan.round_of(c) != self.round().value() {
+        if plan.round_of(c) != self.round().value() {
             return false;
         }
-        let q = at.plan.rank_of(c).value();
-        q < rank.value()
-            && !self.progress.disqualified.has(q)
-            && at.tree.valid(at.plan, &self.pool, c)
+        let q = plan.rank_of(c).value();
+        q < rank.value() && !self.progress.disqualified.has(q) && tree.valid(plan, &self.pool, c)
     }
 
     // the first block that is better than the rank, of those that the holder of rank q made in the seat's round
-    fn best_of_rank(&self, at: Context<'_>, rank: Rank, q: Rank) -> Option<BlockNumber>
-        ensures { block_value result ≡ best_in_rank (model at.entry.plan.now) at.entry.tree.now self.now rank.value q.value }
+    fn best_of_rank(&self, plan: &Plan, tree: &Tree, rank: Rank, q: Rank) -> Option<BlockNumber>
+        ensures { block_value result ≡ best_in_rank (model plan.now) tree.now self.now rank.value q.value }
     {
-        let maker = at.plan.holder(self.progress.round, q)?;
+        let maker = plan.holder(self.progress.round, q)?;
         (0..3)
-            .map(|variant| at.plan.number(self.progress.round, maker, variant))
-            .find(|c| self.is_better(at, rank, *c))
+            .map(|variant| plan.number(self.progress.round, maker, variant))
+            .find(|c| self.is_better(plan, tree, rank, *c))
     }
 
     /// The first block that is better than the rank, by rank and then by number.
-    pub fn best(&self, at: Context<'_>, rank: Rank) -> Option<BlockNumber>
-        ensures { block_value result ≡ best_in (model at.entry.plan.now) at.entry.tree.now self.now rank.value }
+    pub fn best(&self, plan: &Plan, tree: &Tree, rank: Rank) -> Option<BlockNumber>
+        ensures { block_value result ≡ best_in (model plan.now) tree.now self.now rank.value }
     {
-        (0..rank.value()).find_map(|q| self.best_of_rank(at, rank, Rank::capped(q)))
+        (0..rank.value()).find_map(|q| self.best_of_rank(plan, tree, rank, Rank::capped(q)))
     }
 
     /// Whether a block of this rank is noted.

@@ -94,13 +94,13 @@ impl Seat {
     }
 
     /// How the seat stands.
-    pub fn standing(&self) -> Standing<'_>
+    pub fn standing(&self) -> Standing
         ensures { Stands result (seated self.now) }
     {
         Standing {
             phase: self.progress.phase,
             round: self.progress.round,
-            catalogue: self.progress.catalogue.as_slice(),
+            catalogue: self.progress.catalogue,
         }
     }
 

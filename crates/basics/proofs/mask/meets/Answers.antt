@@ -1,8 +1,7 @@
 -- A number is in both sets exactly where one is in what `&` leaves.
 use Rattle.std.proofs.Common.{arith}
-use Rattle.std.specs.Int.{w128}
 use Rattle.basics.proofs.BitLaws.{meets_by_and}
 use Rattle.basics.proofs.mask.meets.Goals as goal
 
 pub returns : goal.returns
-returns c = meets_by_and w128 c.args.a c.args.b (omega arith)
+returns c = meets_by_and 128 c.args.a c.args.b (omega arith)

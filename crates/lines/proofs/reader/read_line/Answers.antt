@@ -1,5 +1,5 @@
 -- A line of pairs and a line feed has their bytes; any other has none.
-use Rattle.std.proofs.Common.{rules, ◌≡◌, ◌+◌, ◌-◌, ◌*◌, ◌≤◌, ◌<◌, [], ◌∷◌, length, get_or, take, drop, sym, ap, ◌∙◌, ◌≢◌, arith, length-drop}
+use Rattle.std.proofs.Common.{rules, ◌≡◌, ◌-◌, ◌*◌, ◌<◌, ◌∷◌, length, get_or, drop, sym, ap, ◌∙◌, ◌≢◌, arith, length-drop}
 use Rattle.std.proofs.lemmas.List.{take_all}
 use Rattle.lines.specs.Lines.{lines, later, leading_bytes}
 use Rattle.basics.specs.Elements.{elements}

@@ -1,5 +1,5 @@
 -- One line more is put.
-use Rattle.std.proofs.Common.{◌+◌, [], ◌∷◌, ◌++◌, List, ℕ, map, take, ap, ◌∙◌, sym, subst}
+use Rattle.std.proofs.Common.{[], ◌∷◌, ◌++◌, List, ℕ, map, take, ap, ◌∙◌, sym, subst}
 use Rattle.std.proofs.lemmas.List.{map_more}
 use Rattle.lines.specs.Writing.{Puts}
 use Rattle.lines.proofs.WriterLaws.{puts_more}

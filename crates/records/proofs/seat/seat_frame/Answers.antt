@@ -1,5 +1,5 @@
 -- One more block: its two bytes.
-use Rattle.std.proofs.Common.{rules, ◌≡◌, ◌<◌, ◌+◌, ◌*◌, ◌/◌, ◌%◌, ℕ, [], ◌∷◌, ◌++◌, List, length, get_or, take, ap, ◌∙◌, sym, arith}
+use Rattle.std.proofs.Common.{◌≡◌, ◌<◌, ◌+◌, ◌/◌, ◌%◌, ℕ, [], ◌∷◌, ◌++◌, List, length, get_or, take, ap, ◌∙◌, sym, arith}
 use Rattle.std.proofs.lemmas.List.{length-take-le, take_more}
 use Rattle.basics.specs.Elements.{elements}
 use Rattle.records.specs.Frames.{wides}
@@ -8,7 +8,7 @@ use Rattle.records.proofs.seat.seat_frame.Goals as goal
 
 pub loop-block-preserved : goal.loop-block-preserved
 loop-block-preserved c =
-    let bs = c.args.report.catalogue.now in
+    let bs = take c.args.report.count c.args.report.catalogue in
     let i = c.loop-block.block-index in
     let b = get_or bs i 0 in
     let bytes = c.to_be_bytes.result in

@@ -6,4 +6,4 @@ use Rattle.records.proofs.seat.seat_frame.Given as goal
 
 abbrev pub invariant-loop-block : goal.invariant-loop-block
 invariant-loop-block l =
-    elements l.frame ≡ 224 ∷ l.seat ∷ l.report.state ∷ l.report.round ∷ l.report.k_max ∷ wides (take l.block-index l.block-items)
+    elements l.frame ≡ 224 ∷ l.seat ∷ l.fn.report.state ∷ l.fn.report.round ∷ l.fn.report.k_max ∷ wides (take l.block-index l.block-items)

@@ -16,7 +16,7 @@ invariant_of-result-clause-below g c =
     let ranks = c.ranks_of-ranks.result in
     let en : D.seats dr ≡ s.seats = sym (c.in_ok-sizes.ensures.same.0 ∙ c.seat_count.ensures) in
     let eR : D.rounds dr ≡ s.rounds = sym (c.in_ok-sizes.ensures.same.1 ∙ c.round_count.ensures) in
-    let low = ranks_below (D.seats dr) (D.rounds dr) (D.rank dr) ranks (D.within dr) c.ranks_of-ranks.ensures (D.once dr) in
+    let low = ranks_below (D.seats dr) (D.rounds dr) (D.rank dr) ranks (D.within dr).few_seats (D.within dr).few_rounds c.ranks_of-ranks.ensures (D.once dr) in
     subst (λ (m : ℕ). RanksBelow m s.rounds ranks) en (subst (λ (k : ℕ). RanksBelow (D.seats dr) k ranks) eR low)
 
 pub invariant_of-result-clause-apart : goal.invariant_of-result-clause-apart
@@ -27,7 +27,7 @@ invariant_of-result-clause-apart g c =
     let ranks = c.ranks_of-ranks.result in
     let en : D.seats dr ≡ s.seats = sym (c.in_ok-sizes.ensures.same.0 ∙ c.seat_count.ensures) in
     let eR : D.rounds dr ≡ s.rounds = sym (c.in_ok-sizes.ensures.same.1 ∙ c.round_count.ensures) in
-    let apart = ranks_apart (D.seats dr) (D.rounds dr) (D.rank dr) ranks (D.within dr) c.ranks_of-ranks.ensures (D.once dr) in
+    let apart = ranks_apart (D.seats dr) (D.rounds dr) (D.rank dr) ranks (D.within dr).few_seats (D.within dr).few_rounds c.ranks_of-ranks.ensures (D.once dr) in
     subst (λ (m : ℕ). RanksApart m s.rounds ranks) en (subst (λ (k : ℕ). RanksApart (D.seats dr) k ranks) eR apart)
 
 pub returns : goal.returns
@@ -38,7 +38,7 @@ returns g c =
     let ranks = c.ranks_of-ranks.result in
     let en : s.seats ≡ D.seats dr = c.in_ok-sizes.ensures.same.0 ∙ c.seat_count.ensures in
     let eR : s.rounds ≡ D.rounds dr = c.in_ok-sizes.ensures.same.1 ∙ c.round_count.ensures in
-    let taken = rank_taken (D.seats dr) (D.rounds dr) (D.rank dr) ranks (D.within dr) c.ranks_of-ranks.ensures in
+    let taken = rank_taken (D.seats dr) (D.rounds dr) (D.rank dr) ranks (D.within dr).few_seats (D.within dr).few_rounds c.ranks_of-ranks.ensures in
     let here : rank_in s.seats s.rounds ranks ≡ drawn_rank s.seats s.rounds (D.rank dr) =
     (λ i. rank_in (en i) (eR i) ranks) ∙ taken ∙ sym (λ i. drawn_rank (en i) (eR i) (D.rank dr)) in
     ap Ok (fresh_is s.seats s.rounds (D.rank dr) c.args.most_corrupt c.args.d c.args.e ranks (replicate {A = ℕ} 128 0) here)

@@ -9,8 +9,8 @@ use Rattle.seats.proofs.seat.Seat.best.Goals as goal
 pub returns : goal.returns
 returns c =
     let run = c.find_map.ensures.runs in
-    let p = model c.args.at.plan.now in
-    let t = c.args.at.tree.now in
+    let p = model c.args.plan.now in
+    let t = c.args.tree.now in
     let x = c.args.self.now in
     let r = c.args.rank.value in
     let low = run.1 ∙ ap (λ (n : ℕ). record { start = 0; end = n }) c.value.ensures.same in

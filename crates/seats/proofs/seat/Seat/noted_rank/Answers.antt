@@ -1,4 +1,4 @@
-use Rattle.std.proofs.Common.{◌≡◌, ℕ, Bool, false, ◌&&◌, eqb, get_or, sym, ap, ◌∙◌, rules}
+use Rattle.std.proofs.Common.{ℕ, Bool, false, ◌&&◌, eqb, get_or, ap, ◌∙◌, rules}
 use Rattle.basics.specs.Count.{some_below}
 use Rattle.model.specs.Setup.{rank_of}
 use Rattle.plans.specs.Planned.{model}
